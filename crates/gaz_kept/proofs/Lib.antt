@@ -31,6 +31,7 @@ pub mod Writes
 pub mod Examples
 pub mod PassageExamples
 pub mod MetaRows
+pub mod FirstTables
 pub mod WorkedOpening
 pub mod LawfulViews
 pub mod Rewritten

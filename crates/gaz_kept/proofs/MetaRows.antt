@@ -1,5 +1,5 @@
 -- What the rows of `meta` tell, from what is shown of them.
-use Rattle.std.proofs.Common.{◌≡◌, ◌≢◌, ◌∙◌, ◌&&◌, inl, inr, ℕ, pos, Bool, true, false, not, codes, List, [], ◌∷◌, filter, map, take, Some, Ok, Err, Result, IfOk, Vec, IsPermutation, refl, sym, ap, subst}
+use Rattle.std.proofs.Common.{◌≡◌, ◌≢◌, ◌∙◌, ◌&&◌, inl, inr, ℕ, pos, Bool, true, false, not, codes, List, [], ◌∷◌, filter, map, take, Ok, Err, Result, IfOk, Vec, IsPermutation, refl, sym, ap, subst}
 use Rattle.std.specs.declared.alloc.Global.{Global}
 use Rattle.std.proofs.lemmas.List.Sorted.{IsPermutation-sym}
 use Rattle.sqlite.proofs.Callers.{one_permutation}
@@ -7,17 +7,12 @@ use Rattle.sqlite.specs.Effect.{Database}
 use Rattle.sqlite.specs.Held.{Held, state}
 use Rattle.sqlite.specs.Order.{Row, column}
 use Rattle.sqlite.specs.Schema.{Schema}
-use Rattle.sqlite.specs.Listing.{understood}
 use Rattle.sqlite.specs.State.{Shown}
 use Rattle.sqlite.specs.Table.{Table}
 use Rattle.std.specs.List.{list_any}
-use Rattle.sqlite.specs.Term.{lit}
-use Rattle.sqlite_tied.specs.Compute.{everything}
-use Rattle.gaz_sql_facts.specs.Selects.{Selects, selecting}
-use Rattle.gaz_sql_facts.proofs.Texts.{IsSelect, answers}
-use Rattle.gaz_tables.proofs.Four.{meta_first, rows_at}
+use Rattle.gaz_sql_facts.proofs.Texts.{answers}
 use Rattle.gaz_tables.proofs.Standing.{listed, table}
-use Rattle.gaz_tables.proofs.MetaTexts.{rows_found, rows_terms}
+use Rattle.gaz_tables.proofs.MetaTexts.{rows_found, rows_here}
 use Rattle.sqlite.specs.declared.error.Error.{Error}
 use Rattle.sqlite.specs.declared.types.Value.TheVariants.{Int, Text}
 use Rattle.sqlite_rules.specs.Lists.{Has}
@@ -26,8 +21,7 @@ use Rattle.std.proofs.lemmas.Bool.{and_from, and_parts, or_left}
 use Rattle.sqlite_schema.specs.Names.{same_name}
 use Rattle.sqlite_trees.specs.declared.store.Store.{Ghosts}
 use Rattle.gaz_tables.specs.Metas.{FindsTwo, meta_row, meta_shown, rows_text}
-use Rattle.gaz_tables.specs.Schema.{first_schema, meta, metas, received, version, version2}
-use Rattle.gaz_tables.specs.Stores.{HasTables}
+use Rattle.gaz_tables.specs.Schema.{meta, received, version, version2}
 use Rattle.gaz_tables.specs.Tables.{AreThere, HasTable, rows_of}
 use Rattle.gaz_kept.specs.Numbered.{HasMeta, IsAnswer, IsJudged, IsNumbered, IsOne, IsTold}
 use Rattle.gaz_kept.specs.Opening.{CreateOpens, has_all, has_name, is_like, schema_number}
@@ -41,11 +35,11 @@ has_version2 : (schema : Schema) → HasTable version2 schema → list_any (is_l
 unfolding same_name
 has_version2 schema has = some_from (is_like version2) schema.tables (table version2 schema has) (listed version2 schema has) refl
 
-has_received : (schema : Schema) → HasTable received schema → list_any (is_like received) schema.tables ≡ true
+pub has_received : (schema : Schema) → HasTable received schema → list_any (is_like received) schema.tables ≡ true
 unfolding same_name
 has_received schema has = some_from (is_like received) schema.tables (table received schema has) (listed received schema has) refl
 
-has_meta : (schema : Schema) → HasTable meta schema → list_any (is_like meta) schema.tables ≡ true
+pub has_meta : (schema : Schema) → HasTable meta schema → list_any (is_like meta) schema.tables ≡ true
 unfolding same_name
 has_meta schema has = some_from (is_like meta) schema.tables (table meta schema has) (listed meta schema has) refl
 
@@ -56,14 +50,6 @@ all_found schema has = and_from _ _ (has_version2 schema has.versions) (and_from
 
 pub nothing_lacks : (schema : Schema) → AreThere schema → false ≡ has_all schema → ⊥
 nothing_lacks schema has lacks = let e : ◌≡◌ {A = Bool} false true = lacks ∙ all_found schema has in absurd (cc)
-
--- a database of schema 1 has its tables, and none of schema 2
-pub has_first_tables : has_first first_schema ≡ true
-unfolding has_first same_name
-has_first_tables = refl
-
-pub nothing_first_lacks : (schema : Schema) → schema ≡ first_schema → false ≡ has_first schema → ⊥
-nothing_first_lacks schema same lacks = let e : ◌≡◌ {A = Bool} false true = lacks ∙ ap has_first same ∙ has_first_tables in absurd (cc)
 
 -- no database has both
 pub not_both : (schema : Schema) → has_all schema ≡ true → has_first schema ≡ true → ⊥
@@ -82,9 +68,6 @@ not_both schema all first =
 pub not_store : (schema : Schema) → AreThere schema → has_first schema ≡ true → ⊥
 not_store schema has first = not_both schema (all_found schema has) first
 
-pub is_first : (schema : Schema) → schema ≡ first_schema → has_first schema ≡ true
-is_first schema same = ap has_first same ∙ has_first_tables
-
 -- ---- what is answered
 
 -- `transaction` does nothing but begin
@@ -93,26 +76,21 @@ pub answered : {S : Type 0} (g : Ghosts S) (before begun after : Held S) → beg
 answered g before begun after same (Err e) h = tt
 answered g before begun after same (Ok rows) h = (after, subst (λ b. Shown rows_text [] (state g b) (state g after) rows.items) same h)
 
--- of the tables of schema 1 too, it is of the rows of `meta`
-rows_is_first : IsSelect first_schema rows_text (selecting metas [] rows_terms [] (lit (Int (pos 2)))) (codes "id" ∷ codes "number" ∷ codes "register" ∷ [])
-unfolding understood everything
-rows_is_first = record { is = refl; plain = (refl, refl); unlisted = refl }
+-- `meta` stands among the tables of schema 2 and of schema 1
+meta_there : (db : Database) → HasMeta db → HasTable meta db.schema
+meta_there db (inl tables) = tables.there.metas
+meta_there db (inr first) = first.there.metas
 
--- what is found, once a transaction is begun, of the tables of schema 2 and of schema 1
+-- what is found there, once a transaction is begun
 pub found : {S : Type 0} (g : Ghosts S) (before begun after : Held S) → begun ≡ record before { in_transaction = true } → (r : Result (Vec Row Global) Error)
-    → (HasTables (state g begun).now → IfOk r (λ rows. FindsTwo (rows_of (state g begun).now meta) rows.items))
     → IfOk r (λ rows. Shown rows_text [] (state g begun) (state g after) rows.items)
     → HasMeta (state g before).now → IfOk r (λ rows. FindsTwo (rows_of (state g before).now meta) rows.items)
-found g before begun after same (Err e) finds shown has = tt
-found g before begun after same (Ok rows) finds shown has =
+found g before begun after same (Err e) shown has = tt
+found g before begun after same (Ok rows) shown has =
     let now : (state g begun).now ≡ (state g before).now = ap (λ h. (state g h).now) same in
-    elim has [
-      | inl tables ↦ subst (λ (db : Database). FindsTwo (rows_of db meta) rows.items) now (finds (subst HasTables (sym now) tables))
-      | inr first ↦ subst (λ (db : Database). FindsTwo (rows_of db meta) rows.items) now
-          (let is : (state g begun).now.schema ≡ first_schema = ap (λ (db : Database). db.schema) now ∙ first.schema_is in
-          let all = answers _ _ _ _ _ _ _ _ rows_is_first _ (state g begun) (state g after) is (Ok rows) shown in
-          rows_found (state g begun).now (Ok rows) (subst (λ l. Selects [] rows_terms [] (Some 2) l [] rows.items) (sym (rows_at (state g begun).now first_schema is meta metas meta_first)) all))
-    ]
+    let there : HasTable meta (state g begun).now.schema = subst (λ (db : Database). HasTable meta db.schema) (sym now) (meta_there (state g before).now has) in
+    let all = answers _ _ _ _ _ _ _ _ (rows_here (state g begun).now there) _ (state g begun) (state g after) refl (Ok rows) shown in
+    subst (λ (db : Database). FindsTwo (rows_of db meta) rows.items) now (rows_found (state g begun).now (Ok rows) all)
 
 -- ---- what is shown
 

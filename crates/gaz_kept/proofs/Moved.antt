@@ -41,6 +41,25 @@ module _ (old mid new : State) (same : IsUnchanged old mid) where
       let it = moves (subst HasFirstTables (sym same.0.now_is) has) in
       (subst (λ (db : Database). Migrates schema_number register db new.now) same.0.now_is it.0, it.1)
 
+-- the trees that a stop may leave, of an open connection
+abbrev Becomes : State → List ℕ → Trees → Type 0
+Becomes s register trees = IsTrue s.is_open × Moved s register trees
+
+module _ (old mid new : State) (same : HasCleanDisk mid → IsUnchanged old mid) where
+  pub leaves_now : (register : List ℕ) → Survives old mid (λ _. ⊥) → ((HasCleanDisk mid → HasFirstTables mid.now) → Survives mid new (Moved mid register))
+      → (HasCleanDisk old → IsTrue old.is_open → HasFirstTables old.now) → Survives old new (Becomes old register)
+  leaves_now register survives leaves sound =
+      survives_then old mid new (λ _. ⊥) (Moved mid register) (Becomes old register)
+      (λ clean trees never. absurd never)
+      (λ clean trees made.
+      let it = same (clean_before mid new _ (Moved mid register) leaves clean) in
+      (it.0.was_open, (made.0, made.1, subst (λ (db : Database). Migrates schema_number register db made.0) it.0.now_is made.2)))
+      survives
+      (leaves (λ clean.
+      let it = same clean in
+      let before : HasCleanDisk old = let le = survives.clean in omega (arith, le, clean) in
+      subst HasFirstTables (sym it.0.now_is) (sound before it.0.was_open)))
+
 -- ---- once the row of `meta` was compared
 
 pub told_then : {S : Type 0} (g : Ghosts S) (before : Held S) (number : ℕ) (register : List ℕ) → TellsRows number g before register (Ok tt) → (r : Result (Unit {0}) StoreRefusal) → IfErr r (λ e. e ≡ Fault)
@@ -63,9 +82,6 @@ module _ (old mid new : State) where
   pub refused_then : {A E : Type 0} (r : Result A E) → Rests old mid → OnErr r (Rests mid new) → OnErr r (Rests old new)
   refused_then (Ok x) one two = tt
   refused_then (Err e) one two = rests_then one two
-
-  abbrev Becomes : State → List ℕ → Trees → Type 0
-  Becomes s register trees = IsTrue s.is_open × Moved s register trees
 
   pub leaves_then : (register : List ℕ) → (HasCleanDisk mid → Rests old mid) → Survives old mid (λ _. ⊥) → ((HasCleanDisk mid → IsTrue mid.is_open → HasFirstTables mid.now) → Survives mid new (Becomes mid register))
       → (HasCleanDisk old → IsTrue old.is_open → HasFirstTables old.now) → Survives old new (Becomes old register)

@@ -4,6 +4,7 @@ use Rattle.std.specs.FinMap as finite
 use Rattle.std.specs.List.{cons_option}
 use Rattle.sqlite.specs.Effect.{Database}
 use Rattle.sqlite.specs.Order.{Row, column}
+use Rattle.sqlite.specs.Table.{Table}
 use Rattle.sqlite.specs.declared.types.Value.{Value}
 use Rattle.sqlite.specs.declared.types.Value.TheVariants.{Int}
 use Rattle.sqlite_rules.specs.Lists.{Has}
@@ -14,14 +15,16 @@ use Rattle.gaz_overlay.proofs.StandingRows.{item_after, stands}
 use Rattle.gaz_overlay.specs.Rows.{view_after}
 use Rattle.gaz_sql_facts.specs.Copies.{AreCopied}
 use Rattle.gaz_tables.specs.Metas.{Rewrites, id_of, meta_row}
-use Rattle.gaz_tables.specs.Migrating.{with_hop}
-use Rattle.gaz_tables.specs.Schema.{meta, received, version, version2}
-use Rattle.gaz_tables.specs.Tables.{rows_of, tree_named}
+use Rattle.gaz_tables.specs.Migrating.{KeepsOthers, with_hop}
+use Rattle.gaz_tables.proofs.CreatingExamples.{of_schema_1}
+use Rattle.gaz_tables.proofs.Four.{received_tree}
+use Rattle.gaz_tables.specs.Schema.{first_schema, meta, metas, old_versions, received, version, version2}
+use Rattle.gaz_tables.specs.Tables.{rows_of, tree_named, tree_of}
 use Rattle.gaz_kept.specs.Examples.{changed}
 use Rattle.gaz_kept.specs.Migrated.{first_rows}
 use Rattle.gaz_kept.specs.Numbered.{IsNumbered}
 use Rattle.gaz_kept.specs.OpeningFirst.{has_first}
-use Rattle.gaz_kept.specs.WorkedMigrated.{HasMoved, IsMigration, WorkedFirst, WorkedMigrated, WorkedMove, first_101, first_changed, first_database, first_table, late_101, moved_changed, moved_rows}
+use Rattle.gaz_kept.specs.WorkedMigrated.{HasMoved, IsMigration, WorkedFirst, WorkedMigrated, WorkedMove, first_101, first_changed, first_database, first_table, first_trees, late_101, moved_changed, moved_rows}
 use Rattle.gaz_kept.specs.WorkedOpening.{others, ours}
 use Rattle.gaz_kept.specs.Versions.{histories_in, living, view_in}
 use Rattle.gaz_kept.proofs.Examples.{said}
@@ -39,6 +42,7 @@ first_holds : WorkedFirst
 unfolding has_first same_name
 first_holds = record {
   first = refl;
+  in_another_order = refl;
   second = refl;
   beside_another = refl;
   taken = (meta_row 1 ours, is_numbered ours, refl);
@@ -91,14 +95,33 @@ its_meta : rows_of first_database meta ≡ meta_row 1 ours ∷ []
 unfolding tree_named same_name
 its_meta = refl
 
+-- what stands beside rows and `meta` are the files
+versions_at : tree_of version first_schema ≡ old_versions
+unfolding tree_named same_name
+versions_at = refl
+
+metas_at : tree_of meta first_schema ≡ metas
+unfolding tree_named same_name
+metas_at = refl
+
+kept_beside : (items : List Row) (number : ℕ) (new : Database) → HasMoved items number new → KeepsOthers first_database new
+kept_beside items number new h t (inl same) not_versions not_metas = absurd (not_versions (ap (λ (t : Table). t.tree) same ∙ sym versions_at))
+kept_beside items number new h t (inr (inl same)) not_versions not_metas =
+    let at : t.tree ≡ received.tree = ap (λ (t : Table). t.tree) same in
+    let there : tree_of received new.schema ≡ received.tree = ap (tree_of received) h.schema_is ∙ received_tree in
+    (subst (λ s. Has s.tables t) (sym h.schema_is) (inr (inl same)), ap new.trees (at ∙ sym there) ∙ h.no_files ∙ sym (ap first_trees at))
+kept_beside items number new h t (inr (inr (inl same))) not_versions not_metas = absurd (not_metas (ap (λ (t : Table). t.tree) same ∙ sym metas_at))
+kept_beside items number new h t (inr (inr (inr none))) not_versions not_metas = absurd none
+
 both : (new : Database) → HasMoved moved_rows 2 new → IsMigration new
 both new h = record {
-  schema_is = h.schema_is;
+  schema_is = h.schema_is ∙ sym of_schema_1;
   tables = h.tables;
   rows = subst (λ l. AreCopied with_hop l [] (rows_of new version2)) (sym its_rows) (subst (AreCopied with_hop first_table []) (sym h.items_are) copied);
   emptied = h.emptied;
   files = h.no_files ∙ sym its_files;
   meta = subst (λ l. Rewrites 2 ours l (rows_of new meta)) (sym its_meta) (subst (Rewrites 2 ours (meta_row 1 ours ∷ [])) (sym h.meta_is) numbered_2);
+  others = kept_beside moved_rows 2 new h;
 }
 
 -- it has a row of street 101

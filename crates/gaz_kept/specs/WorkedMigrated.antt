@@ -12,6 +12,7 @@ use Rattle.gaz_records.specs.declared.key.Key.TheVariants as key
 use Rattle.gaz_views.specs.Examples.{street}
 use Rattle.gaz_tables.specs.Metas.{meta_row}
 use Rattle.gaz_tables.specs.Migrating.{Migrates, with_hop}
+use Rattle.gaz_tables.specs.MigratingExamples.{reordered_first}
 use Rattle.gaz_tables.specs.Schema.{first_schema, meta, metas, old_versions, received, store_schema}
 use Rattle.gaz_tables.specs.Schema.{version, version2}
 use Rattle.gaz_tables.specs.Stores.{HasTables}
@@ -36,6 +37,7 @@ with_another = record first_schema {
 
 pub record WorkedFirst : Type 0 where
   pub first : has_first first_schema ≡ true
+  pub in_another_order : has_first reordered_first ≡ true
   pub second : has_first store_schema ≡ false
   pub beside_another : has_first with_another ≡ false
   pub taken : IsJudgedFirst ours (meta_row 1 ours ∷ []) (Ok tt)

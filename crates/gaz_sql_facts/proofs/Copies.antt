@@ -37,7 +37,7 @@ use Rattle.sqlite.proofs.Callers.{runs_as, one_step}
 use Rattle.gaz_sql_facts.specs.Changes.{Changes, InPlace}
 use Rattle.gaz_sql_facts.specs.Copies.{AreCopied, copying}
 use Rattle.gaz_sql_facts.specs.Selects.{passes, shows, Selects}
-use Rattle.gaz_sql_facts.specs.Tables.{keyed}
+use Rattle.gaz_sql_facts.specs.Tables.{keyed_as}
 use Rattle.gaz_sql_facts.proofs.Free.{free_insert}
 use Rattle.gaz_sql_facts.proofs.Inserts.{went, same_value, others_stay}
 use Rattle.gaz_sql_facts.proofs.Lists.{matched, map_map, limited_map, unmapped, sorted_unmapped}
@@ -106,12 +106,12 @@ all_pass [] = refl
 all_pass (r ∷ rows) = ap (λ l. r ∷ l) (all_pass rows)
 
 -- INSERT INTO the table at this place SELECT project FROM the table at `from`; `copy` are the values that a row there is copied to
-module _ (schema : Schema) (at tree from : ℕ) (name primary : List ℕ) (uniques : List (List ℕ)) (columns : List Column) (checks project : List Term) (by : List Collation) (copy : Row → Row)
-    (listed : slice_get schema.tables at ≡ Some (keyed None name tree columns primary uniques checks))
+module _ (schema : Schema) (at from : ℕ) (other : Table) (name : List ℕ) (uniques : List (List ℕ)) (columns : List Column) (project : List Term) (by : List Collation) (copy : Row → Row)
+    (listed : slice_get schema.tables at ≡ Some (keyed_as other None name columns uniques))
     (shown : (r : Row) → shows project [] r ≡ Null ∷ copy r)
     (kept : (db : Database) → db.schema ≡ schema → IsDatabase db → (r : Row) → Has (db.trees from) r → cast_all columns (copy r) ≡ copy r) where
   abbrev table : Table
-  table = keyed None name tree columns primary uniques checks
+  table = keyed_as other None name columns uniques
 
   abbrev program : Program
   program = record { lets = []; body = copying from project by }
@@ -130,7 +130,7 @@ module _ (schema : Schema) (at tree from : ℕ) (name primary : List ℕ) (uniqu
 
     new_is : (x : Row) → Has edit.news x → (s : Row) × Has (db.trees from) s × ((n : ℤ) × (x ≡ Int n ∷ copy s))
     new_is x h =
-        let it = numbered_is (map cast_of rows) (db.trees tree) x h in
+        let it = numbered_is (map cast_of rows) (db.trees other.tree) x h in
         let source = has_mapped cast_of rows it.0 it.1 in
         let m = selected [] project [] (db.trees from) [] rows None all source.0 source.1 in
         let is : it.0 ≡ Null ∷ copy m.0 = source.2 ∙ ap cast_of m.3 ∙ recast m.0 m.1 in
@@ -140,22 +140,22 @@ module _ (schema : Schema) (at tree from : ℕ) (name primary : List ℕ) (uniqu
     is_new s there =
         let one = found [] project [] (db.trees from) [] rows all s there refl in
         let cast : Has (map cast_of rows) (Null ∷ copy s) = subst (Has (map cast_of rows)) (recast s there) (mapped_has cast_of rows (shows project [] s) one) in
-        let it = is_numbered (map cast_of rows) (db.trees tree) (Null ∷ copy s) cast in
+        let it = is_numbered (map cast_of rows) (db.trees other.tree) (Null ∷ copy s) cast in
         (next_rowid it.0, it.1)
 
     as_many : length edit.news ≡ length (db.trees from)
-    as_many = numbered_length (map cast_of rows) (db.trees tree) ∙ length-map rows cast_of ∙ counted [] project [] (db.trees from) [] rows all ∙ ap length (all_pass (db.trees from))
+    as_many = numbered_length (map cast_of rows) (db.trees other.tree) ∙ length-map rows cast_of ∙ counted [] project [] (db.trees from) [] rows all ∙ ap length (all_pass (db.trees from))
 
-    copied_rows : (keys : Keys) (next : Trees) → Applies schema keys db.trees edit next → AreCopied copy (db.trees from) (db.trees tree) (next tree)
+    copied_rows : (keys : Keys) (next : Trees) → Applies schema keys db.trees edit next → AreCopied copy (db.trees from) (db.trees other.tree) (next other.tree)
     copied_rows keys next a = record {
-      only = λ r h. elim (put_all_has edit.news (db.trees tree) r (subst (λ l. Has l r) a.rows h)) [ inl new ↦ inr (new_is r new) | inr old ↦ inl old ];
-      done = λ s there. let it = is_new s there in (it.0, subst (λ l. Has l (Int it.0 ∷ copy s)) (sym a.rows) (put_all_adds edit.news (db.trees tree) (Int it.0 ∷ copy s) a.fresh it.1));
-      kept = λ r h. subst (λ l. Has l r) (sym a.rows) (put_all_keeps edit.news (db.trees tree) r a.fresh h);
-      each_once = ap length a.rows ∙ put_all_length edit.news (db.trees tree) a.fresh ∙ ap (λ n. length (db.trees tree) + n) as_many;
+      only = λ r h. elim (put_all_has edit.news (db.trees other.tree) r (subst (λ l. Has l r) a.rows h)) [ inl new ↦ inr (new_is r new) | inr old ↦ inl old ];
+      done = λ s there. let it = is_new s there in (it.0, subst (λ l. Has l (Int it.0 ∷ copy s)) (sym a.rows) (put_all_adds edit.news (db.trees other.tree) (Int it.0 ∷ copy s) a.fresh it.1));
+      kept = λ r h. subst (λ l. Has l r) (sym a.rows) (put_all_keeps edit.news (db.trees other.tree) r a.fresh h);
+      each_once = ap length a.rows ∙ put_all_length edit.news (db.trees other.tree) a.fresh ∙ ap (λ n. length (db.trees other.tree) + n) as_many;
     }
 
   pub fills : (limit : Option ℕ) (mode : Mode) (old after : Database) (text : List ℕ) (tally : Tally) → old.schema ≡ schema → IsDatabase old → IsDatabase after
-      → Does limit mode [] old text None (Insert at (Asked program)) (Ok (tally, after)) → Changes tree (AreCopied copy (old.trees from)) old after
+      → Does limit mode [] old text None (Insert at (Asked program)) (Ok (tally, after)) → Changes other.tree (AreCopied copy (old.trees from)) old after
   fills limit mode old after text tally has sound done_sound h =
       let task : Task = record { limit = limit; keys = mode.keys; schema = schema; table = table; params = [] } in
       let bare : OnRows task mode None (Insert at (Asked program)) old.trees (Ok (tally, after)) = rw listed at (subst (λ s. Does limit mode [] (record old { schema = s }) text None (Insert at (Asked program)) (Ok (tally, after))) has h) in
@@ -169,19 +169,19 @@ module _ (schema : Schema) (at tree from : ℕ) (name primary : List ℕ) (uniqu
       let all : Selects [] project [] None (old.trees from) [] asked.0 =
       subst (λ t. Selects [] project [] None t [] asked.0) (overlay_none old.trees from) (copies from project by _ [] asked.0 (asked.1.answer Null)) in
       let edit = edit_of old.trees table [] Chosen 0 asked.0 in
-      let applied : Applies schema mode.keys old.trees edit written.0 = one_step schema mode.keys old.trees written.0 edit (free_insert schema mode.keys tree edit.news) written.1 in
+      let applied : Applies schema mode.keys old.trees edit written.0 = one_step schema mode.keys old.trees written.0 edit (free_insert schema mode.keys other.tree edit.news) written.1 in
       let made : after.trees ≡ written.0 = ap (λ (d : Database). d.trees) now ∙ trees in
       let a : Applies schema mode.keys old.trees edit after.trees = subst (λ t. Applies schema mode.keys old.trees edit t) (sym made) applied in
       record {
         schema_stays = ap (λ (d : Database). d.schema) now ∙ sym has;
         sound = done_sound;
         rows = copied_rows old has sound asked.0 all mode.keys after.trees a;
-        shaped = λ h. subst (IsShaped shape.Table) (sym a.rows) (shaped_put edit.news (old.trees tree) a.keyed h);
+        shaped = λ h. subst (IsShaped shape.Table) (sym a.rows) (shaped_put edit.news (old.trees other.tree) a.keyed h);
         others = λ t there. others_stay schema mode.keys old.trees after.trees edit a t (subst (λ s. Has s.tables t) has there);
       }
 
   module _ (sql : List ℕ) (text : IsCommand schema sql (Insert at (Asked program))) (old new : State) (has : old.now.schema ≡ schema) where
-    pub filled : (count : ℕ) → IsDatabase old.now → Executes sql [] old new (Ok count) → Changes tree (AreCopied copy (old.now.trees from)) old.now new.now × InPlace old new
+    pub filled : (count : ℕ) → IsDatabase old.now → Executes sql [] old new (Ok count) → Changes other.tree (AreCopied copy (old.now.trees from)) old.now new.now × InPlace old new
     filled count sound h =
         let w = runs_as sql [] old new schema has (Insert at (Asked program)) text.is text.plain count h in
         (fills old.step_limit (mode_of old) old.now new.now [] w.tally has sound w.sound w.changed, (w.shown, w.marks))

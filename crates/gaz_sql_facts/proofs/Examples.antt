@@ -8,7 +8,7 @@ use Rattle.sqlite.specs.Effect.{Database}
 use Rattle.sqlite.specs.Order.{Row}
 use Rattle.gaz_sql_facts.specs.Examples.{AreCopiedNotes, WorkedCopies, WorkedEmptied, WorkedGains, WorkedExamples}
 use Rattle.gaz_sql_facts.specs.Samples.{archived, ice, lent_jam, never_lent, note, note_schema, notes, old_ice, old_tea, tea, tea_again, two_notes}
-use Rattle.gaz_sql_facts.proofs.StandingExamples.{making, simple, standing}
+use Rattle.gaz_sql_facts.proofs.StandingExamples.{copy_texts, making, simple, standing}
 
 clash : {A : Type 0} → false ≡ true → A
 clash e = absurd (cc)
@@ -118,4 +118,4 @@ gains = record {
 }
 
 pub worked_examples_hold : WorkedExamples
-worked_examples_hold = record { on_copies = copies; on_emptied = emptied; on_gains = gains; on_standing = standing; on_simple = simple; on_making = making }
+worked_examples_hold = record { on_copies = copies; on_emptied = emptied; on_gains = gains; on_standing = standing; on_simple = simple; on_copy_texts = copy_texts; on_making = making }

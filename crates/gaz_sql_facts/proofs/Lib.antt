@@ -1,5 +1,7 @@
 pub mod CommandMoves
 pub mod Copies
+pub mod CopyMoves
+pub mod CopyTexts
 pub mod Emptied
 pub mod Ends
 pub mod Equal

@@ -12,6 +12,7 @@ use Rattle.sqlite_sql.specs.Term.{Term, lit}
 use Rattle.sqlite_schema.specs.declared.command.Command.{Command}
 use Rattle.sqlite_schema.specs.declared.command.Command.TheVariants.{Select as Selects}
 use Rattle.sqlite_schema.specs.declared.program.Program.{Program}
+use Rattle.sqlite_schema.specs.declared.program.Table.{Table as Let}
 use Rattle.sqlite_schema.specs.declared.schema.Schema.{Schema}
 use Rattle.sqlite_schema.specs.declared.schema.Table.{Table}
 use Rattle.sqlite_draft.specs.declared.join.Step.TheVariants.{Inner}
@@ -36,7 +37,7 @@ use Rattle.gaz_sql_facts.proofs.Lower.{lower_same, tests_same}
 use Rattle.gaz_sql_facts.proofs.Outputs.{outputs_same, sorts_same}
 use Rattle.gaz_sql_facts.proofs.Parts.{IsSimpleSelect, select_is}
 use Rattle.gaz_sql_facts.proofs.Queries.{answered, asked, begun, clauses, is_grouped, made, named_is, outs, sorted, tested}
-use Rattle.gaz_sql_facts.proofs.Readings.{query_parts, read_is}
+use Rattle.gaz_sql_facts.proofs.Readings.{query_is, query_parts, read_is}
 use Rattle.gaz_sql_facts.proofs.Typing.{at_tree, drafted, program_moves, query_at, same_ok, taken, through}
 
 -- a chain that is one table has no step behind it
@@ -57,7 +58,7 @@ finished_is d e by how kept n s h none =
     let r = taken (value_of (completed d by how kept (record s { next = if length by == 0 then n + 1 else s.next }))) _ e h in
     grouped_is r.0.0 e r.0.1 r.2 none
 
-abbrev answer_at : ℕ → Answered → Answered
+abbrev pub answer_at : ℕ → Answered → Answered
 answer_at tree it = (at_tree tree it.0, it.1, it.2)
 
 module _ (like table : Table) (place : ℕ) (core : Core) (page : Term × Term) (all : List Output) (filter : List Term) (order : List (Term × Key)) (st : State) (it : Answered) (alone : it.0.group ≡ None) (from : it.0.from ≡ inner like.tree end) where
@@ -115,7 +116,7 @@ module _ (s s' : Schema) (at at' : ℕ) (like table : Table) (stands : StandsAt 
   unfolding paging
   paging_same = λ i. and_then (constant_same (lit (Int (negsuc 0))) (out-Select sel).limit simple.limit i) (λ limit. and_then (constant_same (number 0) (out-Select sel).offset simple.offset i) (λ offset. Ok (limit, offset)))
 
-ungrouped_is : (o : Option Grouping) → option_map grouping_of o ≡ None → o ≡ None
+pub ungrouped_is : (o : Option Grouping) → option_map grouping_of o ≡ None → o ≡ None
 ungrouped_is None h = refl
 ungrouped_is (Some g) h = absurd (cc)
 
@@ -126,6 +127,22 @@ same_names : {p q : Program} {m n : List Name} → ◌≡◌ {A = Command} (Sele
 same_names e = cc
 
 module _ (s s' : Schema) (at at' : ℕ) (like table : Table) (stands : StandsAt s at (as_read like table)) (stands' : StandsAt s' at' like) (bare : s'.views ≡ []) (sel : Select) (simple : is_simple_select like sel ≡ true) where
+  -- the query computes no table before it, and moves
+  pub query_alone : (q : Answered × List Let) → query s' sel ≡ Ok q → q.1 ≡ []
+  query_alone q h =
+      let parts = select_is like sel simple in
+      ap (λ (x : Answered × List Let). x.1) (query_parts s' like.name sel parts.src parts.alone parts.plain bare q h).is
+
+  pub query_moves : (q : Answered × List Let) → q.0.0.group ≡ None → q.0.0.from ≡ inner like.tree end → query s' sel ≡ Ok q → query s sel ≡ Ok (answer_at table.tree q.0, [])
+  query_moves q alone from h =
+      let parts = select_is like sel simple in
+      let r = query_parts s' like.name sel parts.src parts.alone parts.plain bare q h in
+      let d_alone : r.it.0.group ≡ None = ap (λ (x : Answered × List Let). x.0.0.group) (sym r.is) ∙ alone in
+      let d_from : r.it.0.from ≡ inner like.tree end = ap (λ (x : Answered × List Let). x.0.0.from) (sym r.is) ∙ from in
+      query_is s like.name sel parts.src parts.alone parts.plain r.page (paging_same s s' at at' like table stands stands' sel parts ∙ r.paged) (answer_at table.tree r.it)
+      (named_moves s s' at at' like table stands stands' sel parts r.page r.it d_alone d_from r.named_is)
+      ∙ ap {B = Checked (Answered × List Let)} (λ (x : Answered × List Let). Ok (answer_at table.tree x.0, [])) (sym r.is)
+
   pub read_moves : (p : Program) (names : List Name) → p.body.group ≡ None → p.body.from ≡ inner like.tree end → read s' sel ≡ Ok (Selects p names) → read s sel ≡ Ok (Selects (asking (query_at table.tree p.body)) names)
   unfolding read
   read_moves p names alone from h =

@@ -5,7 +5,7 @@ use Rattle.sqlite_tied.specs.Compute.{everything}
 use Rattle.sqlite_schema.specs.declared.schema.Column.{Column}
 use Rattle.sqlite_schema.specs.Names.{index_named, same_name, table_named}
 use Rattle.sqlite_value.specs.Keys.{joined}
-use Rattle.gaz_sql_facts.specs.Examples.{WorkedMaking, WorkedSimple, WorkedStanding}
+use Rattle.gaz_sql_facts.specs.Examples.{WorkedCopyTexts, WorkedMaking, WorkedSimple, WorkedStanding}
 use Rattle.gaz_sql_facts.specs.Making.{IsFree, IsUnreferred}
 use Rattle.gaz_sql_facts.specs.Samples.{archive, behind_archive, behind_namesake, moved_note, note, under_archive, with_by_day}
 use Rattle.gaz_sql_facts.specs.Standing.{IsApart, ReadsAs, StandsAt}
@@ -59,6 +59,10 @@ standing = record {
 pub simple : WorkedSimple
 unfolding everything
 simple = record { query = refl; insert = refl; update = refl; delete = refl; not_another_table = refl; not_another_column = refl; not_two_tables = refl; not_a_subquery = refl; not_a_way_out = refl }
+
+pub copy_texts : WorkedCopyTexts
+unfolding everything
+copy_texts = record { copy = refl; some = refl; not_the_other_way = refl; not_of_both = refl; not_of_a_sum = refl; not_of_values = refl; not_over_one_table = refl }
 
 free : IsFree with_by_day (codes "lent")
 unfolding same_name

@@ -28,15 +28,15 @@ use Rattle.gaz_sql_facts.proofs.Parts.{empty_is}
 use Rattle.gaz_sql_facts.proofs.Sound.{stands_alone}
 use Rattle.gaz_sql_facts.proofs.Typing.{same_ok, taken}
 
-abort_is : (way : Conflict) → is_abort way ≡ true → way ≡ conflict.Abort
+pub abort_is : (way : Conflict) → is_abort way ≡ true → way ≡ conflict.Abort
 abort_is conflict.Abort h = refl
 abort_is way h = absurd (cc)
 
 -- what is planned: in which formats the time is asked for, the command, and what is given back
-abbrev Plan : Type 0
+abbrev pub Plan : Type 0
 Plan = List Name × (Command × Option Returning)
 
-abbrev planning : List Name → Checked Command → Checked Plan
+abbrev pub planning : List Name → Checked Command → Checked Plan
 planning formats r = and_then {A = Command × Option Returning} (and_then r (λ c. Ok (c, None))) (λ found. Ok (formats, found))
 
 module _ (s : Schema) (p : Parsed) where
@@ -52,10 +52,10 @@ module _ (s : Schema) (p : Parsed) where
   unfolding planned meaning timed returning shows command
   planned_delete name test is = rw is
 
-  abbrev inserting : Name → List Name → Rows → List Name → Checked Plan
+  abbrev pub inserting : Name → List Name → Rows → List Name → Checked Plan
   inserting name columns all formats = planning (p.formats ++ formats) (insert s (small p.names + small (p.formats ++ formats)) name columns all)
 
-  planned_insert : (name : Name) (columns : List Name) (all : Rows) → p.statement ≡ written.Insert conflict.Abort name columns all [] [] → planned s p ≡ inserting name columns all (formats_of s name)
+  pub planned_insert : (name : Name) (columns : List Name) (all : Rows) → p.statement ≡ written.Insert conflict.Abort name columns all [] [] → planned s p ≡ inserting name columns all (formats_of s name)
   unfolding planned meaning timed returning shows command insert_or_abort
   planned_insert name columns all is = rw is
 
@@ -69,10 +69,10 @@ module _ (s s' : Schema) (at at' : ℕ) (like table : Table) (stands : StandsAt 
       (λ i. planning formats (moves c (subst (λ (x : Plan). IsOverOne like.tree x.1.0) (sym same) one) refl i)) ∙ ap {B = Checked Plan} (λ (x : Plan). Ok (moved_plan x)) same
   by_command formats (Err e) new moves plan one h = absurd (cc)
 
-  formats_are : formats_of s like.name ≡ like.stamps.formats
+  pub formats_are : formats_of s like.name ≡ like.stamps.formats
   formats_are = rw (stands.named, stands.listed)
 
-  formats_were : formats_of s' like.name ≡ like.stamps.formats
+  pub formats_were : formats_of s' like.name ≡ like.stamps.formats
   formats_were = rw (stands'.named, stands'.listed)
 
   module _ (p : Parsed) (plan : Plan) (one : IsOverOne like.tree plan.1.0) where

@@ -1,6 +1,7 @@
 -- Worked examples: what a copy, an emptied table and a new archive are, where a table stands, which
--- names are free, which texts ask for a table alone or make one, and what none of these are.
-use Rattle.std.specs.Prelude.{◌≡◌, true, false, List, [], ◌∷◌, None, Some, codes}
+-- names are free, which texts ask for a table alone, copy one or make one, and what none of these
+-- are.
+use Rattle.std.specs.Prelude.{◌≡◌, ℕ, Bool, true, false, List, [], ◌∷◌, None, Some, codes}
 use Rattle.sqlite_catalog.specs.Change.{created, indexed}
 use Rattle.sqlite.specs.Effect.{Database}
 use Rattle.sqlite.specs.Order.{Row}
@@ -12,7 +13,7 @@ use Rattle.gaz_sql_facts.specs.Samples.{archive, archived, behind_archive, behin
 use Rattle.gaz_sql_facts.specs.Samples.{ice, lent_jam, moved_note, never_lent, note, note_schema}
 use Rattle.gaz_sql_facts.specs.Samples.{notes, old_ice, old_tea, tea_again, two_notes}
 use Rattle.gaz_sql_facts.specs.Samples.{under_archive, with_archive, with_by_day}
-use Rattle.gaz_sql_facts.specs.Simple.{is_simple_text}
+use Rattle.gaz_sql_facts.specs.Simple.{is_simple_copy, is_simple_text}
 use Rattle.gaz_sql_facts.specs.Standing.{IsApart, ReadsAs, StandsAt}
 
 -- what a copy of the two notes makes of the rows of an archive
@@ -72,6 +73,25 @@ pub record WorkedSimple : Type 0 where
   pub not_a_subquery : is_simple_text note (codes "DELETE FROM note WHERE shelf = (SELECT 7)") ≡ false
   pub not_a_way_out : is_simple_text note (codes "INSERT OR IGNORE INTO note VALUES (1, 2, 3, 4)") ≡ false
 
+-- a text that copies a table of notes into the archive
+abbrev pub copies_notes : List ℕ → Bool
+copies_notes = is_simple_copy note archive
+
+pub record WorkedCopyTexts : Type 0 where
+  pub copy : copies_notes
+      (codes "INSERT INTO archive SELECT shelf, name, since, body, 0 FROM note") ≡ true
+  pub some : copies_notes
+      (codes "INSERT INTO archive SELECT shelf, name, since, body, 0 FROM note LIMIT 9") ≡ true
+  pub not_the_other_way : copies_notes
+      (codes "INSERT INTO note SELECT shelf, name, since, body FROM archive") ≡ false
+  pub not_of_both : copies_notes
+      (codes "INSERT INTO archive SELECT name, since, body, 0 FROM note, archive") ≡ false
+  pub not_of_a_sum : copies_notes
+      (codes "INSERT INTO archive SELECT shelf, name, since + 1, body, 0 FROM note") ≡ false
+  pub not_of_values : copies_notes (codes "INSERT INTO archive VALUES (1, 2, 3, 4, 0)") ≡ false
+  pub not_over_one_table : is_simple_text archive
+      (codes "INSERT INTO archive SELECT shelf, name, since, body, 0 FROM note") ≡ false
+
 pub record WorkedMaking : Type 0 where
   pub free : IsFree with_by_day (codes "lent")
   pub not_a_table : ¬ IsFree with_by_day (codes "NOTE")
@@ -89,4 +109,5 @@ pub record WorkedExamples : Type 0 where
   pub on_gains : WorkedGains
   pub on_standing : WorkedStanding
   pub on_simple : WorkedSimple
+  pub on_copy_texts : WorkedCopyTexts
   pub on_making : WorkedMaking

@@ -1,17 +1,19 @@
--- What a text means, and what it means of a table wherever that stands.
+-- What a text means, and what it means of a table, or of two, wherever these stand.
 use Rattle.std.specs.Prelude.{◌≡◌, ℕ, List, [], None, Ok}
+use Rattle.sqlite_value.specs.declared.keys.Collation.{Collation}
 use Rattle.sqlite_value.specs.declared.keys.Key.{Key}
 use Rattle.sqlite_sql.specs.Query.{Query}
 use Rattle.sqlite_sql.specs.Term.{Term}
 use Rattle.sqlite_schema.specs.declared.command.Command.{Command}
 use Rattle.sqlite_schema.specs.declared.command.Command.TheVariants as command
-use Rattle.sqlite_schema.specs.declared.command.Source.TheVariants.{Values}
+use Rattle.sqlite_schema.specs.declared.command.Source.TheVariants.{Values, Query as Asked}
 use Rattle.sqlite_schema.specs.declared.program.Program.{Program}
 use Rattle.sqlite_schema.specs.declared.schema.Schema.{Schema}
 use Rattle.sqlite_schema.specs.declared.schema.Table.{Table}
 use Rattle.sqlite_resolve.specs.declared.compiled.Compiled.{Compiled}
 use Rattle.sqlite_resolve.specs.Compile.{compiled}
 use Rattle.sqlite_resolve.specs.Scope.{Name}
+use Rattle.gaz_sql_facts.specs.Copies.{copying}
 use Rattle.gaz_sql_facts.specs.Selects.{selecting, every}
 use Rattle.gaz_sql_facts.specs.Standing.{ReadsAs, StandsAt}
 
@@ -53,3 +55,18 @@ placed at tree (OnTable.Deletes tests project) =
 abbrev pub MeansAnywhere : Table → List ℕ → OnTable → Type 0
 MeansAnywhere like text it = (schema : Schema) (at : ℕ) (table : Table) → ReadsAs like table
     → StandsAt schema at table → Means schema text (placed at table.tree it)
+
+-- INSERT INTO the table at a place SELECT project FROM the table at a tree; each value that is
+-- selected has its collation
+abbrev pub copied : ℕ → ℕ → List Term → List Collation → Command
+copied at tree project collations =
+    command.Insert at (Asked (asking (copying tree project collations)))
+
+-- wherever two tables stand over which texts read as over these, the text copies the one into the
+-- other
+abbrev pub CopiesAnywhere : Table → Table → List ℕ → List Term → List Collation → Type 0
+CopiesAnywhere source target text project collations =
+    (schema : Schema) (place at : ℕ) (from into : Table)
+    → ReadsAs source from → StandsAt schema place from
+    → ReadsAs target into → StandsAt schema at into
+    → Means schema text (copied at from.tree project collations)

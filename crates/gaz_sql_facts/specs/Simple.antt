@@ -1,4 +1,5 @@
--- Statements that ask a schema for one table and for nothing else.
+-- Statements that ask a schema for one table, or for two of which one is copied into the other, and
+-- for nothing else.
 use Rattle.std.specs.Prelude.{ℕ, zero, suc, Bool, true, false, not, ◌&&◌, ◌||◌, List, [], ◌∷◌}
 use Rattle.std.specs.Prelude.{Option, None, Some, is_none, is_some, Ok, Err, bytes_eq}
 use Rattle.std.specs.List.{list_all}
@@ -143,6 +144,18 @@ is_simple_statement table (written.Delete name test shown) =
     bytes_eq name table.name && (is_simple_or_none (known_in table) test && is_empty shown)
 is_simple_statement table _ = false
 
+-- the rows of one SELECT over the table
+abbrev pub is_simple_query : Table → Rows → Bool
+is_simple_query source (rows.Select s) = is_simple_select source s
+is_simple_query source _ = false
+
+-- an INSERT into one table of what is selected from another, that gives back no rows
+abbrev pub is_copy_statement : Table → Table → Statement → Bool
+is_copy_statement source target (written.Insert way name columns all clauses shown) =
+    bytes_eq name target.name
+    && (is_abort way && (is_simple_query source all && (is_empty clauses && is_empty shown)))
+is_copy_statement source target _ = false
+
 abbrev pub is_simple_read : Table → Checked Parsed → Bool
 is_simple_read table (Ok p) = is_simple_statement table p.statement
 is_simple_read table (Err e) = false
@@ -150,3 +163,11 @@ is_simple_read table (Err e) = false
 -- the text is such a statement over this table
 abbrev pub is_simple_text : Table → List ℕ → Bool
 is_simple_text table text = is_simple_read table (first text)
+
+abbrev pub is_copy_read : Table → Table → Checked Parsed → Bool
+is_copy_read source target (Ok p) = is_copy_statement source target p.statement
+is_copy_read source target (Err e) = false
+
+-- the text is such an INSERT of rows of `source` into `target`
+abbrev pub is_simple_copy : Table → Table → List ℕ → Bool
+is_simple_copy source target text = is_copy_read source target (first text)

@@ -30,6 +30,10 @@ IsApart schema tree =
 abbrev pub alone : Table → Schema
 alone table = record { tables = table ∷ []; indexes = []; views = [] }
 
+-- the schema of these two tables and nothing else
+abbrev pub together : Table → Table → Schema
+together one other = record { tables = one ∷ other ∷ []; indexes = []; views = [] }
+
 -- texts read alike over both: they may differ in tree, keys, checks and foreign keys
 pub record ReadsAs (like table : Table) : Type 0 where
   pub name : table.name ≡ like.name

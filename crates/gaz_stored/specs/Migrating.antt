@@ -8,7 +8,7 @@ use Rattle.sqlite_trees.specs.declared.store.Store.{Ghosts}
 use Rattle.gaz_register.specs.Registers.{RegisterValue, blocks_of}
 use Rattle.gaz_register.specs.Texts.{register_text}
 use Rattle.gaz_views.specs.View.{empty_view}
-use Rattle.gaz_tables.specs.Migrating.{Migrates}
+use Rattle.gaz_tables.specs.Migrating.{HasFirstTables, Migrates}
 use Rattle.gaz_tables.specs.Schema.{meta}
 use Rattle.gaz_tables.specs.Tables.{rows_of}
 use Rattle.gaz_kept.specs.Migrated.{IsFirstKept, first_content_in}
@@ -81,6 +81,9 @@ module _ {S : Type 0} (g : Ghosts S) (register : RegisterValue) (before after : 
     pub of_first : TellsFirst g before after (Ok tt) (register_text register)
     -- a store is as it was
     pub current : told ≡ Current → Untouched g before after
-    -- tables of schema 1 that stood for a partial run go on to stand for the same hub
+    -- tables of schema 1 become those of a store, with the same rows, beside whatever is there
+    pub becomes : IsUnharmed (state g after) → HasFirstTables old
+        → Migrates schema_number (register_text register) old (state g after).now
+    -- where they stood for a partial run, they go on to stand for the same hub
     pub moves : IsUnharmed (state g after) → FirstStandForRun register old
         → StandsMoved register old (state g after).now

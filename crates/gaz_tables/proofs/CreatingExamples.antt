@@ -71,7 +71,7 @@ room_in_first = record {
   counted = refl;
 }
 
-used : (k : ℕ) (o : Option ℕ) → o ≡ Some k → o ≡ None → ⊥
+pub used : (k : ℕ) (o : Option ℕ) → o ≡ Some k → o ≡ None → ⊥
 used k o some none = let both : ◌≡◌ {A = Option ℕ} (Some k) None = sym some ∙ none in absurd (cc)
 
 own_version : table_named store_schema (codes "version") ≡ Some 0

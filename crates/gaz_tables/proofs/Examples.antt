@@ -12,6 +12,7 @@ use Rattle.sqlite.specs.declared.types.Value.TheVariants.{Int, Text}
 use Rattle.sqlite_rules.specs.Lists.{Has}
 use Rattle.gaz_tables.proofs.CreatingExamples.{creating_holds}
 use Rattle.gaz_tables.proofs.CustodyExamples.{custody_holds}
+use Rattle.gaz_tables.proofs.MigratingExamples.{migrating_holds}
 use Rattle.gaz_tables.proofs.StoreExamples.{stores_hold}
 use Rattle.gaz_tables.specs.Shows.{Picks}
 use Rattle.gaz_tables.specs.Examples.{WorkedVersions, WorkedRowids, WorkedReceiveds, WorkedExamples, flat_2, flat_3, shop, house, four_rows, rejected_1, held_3, of_1002, three_files}
@@ -326,4 +327,4 @@ on_receiveds = record {
 }
 
 pub worked_examples_hold : WorkedExamples
-worked_examples_hold = record { on_versions = on_versions; on_rowids = on_rowids; on_receiveds = on_receiveds; on_custody = custody_holds; on_stores = stores_hold; on_creating = creating_holds }
+worked_examples_hold = record { on_versions = on_versions; on_rowids = on_rowids; on_receiveds = on_receiveds; on_custody = custody_holds; on_stores = stores_hold; on_creating = creating_holds; on_migrating = migrating_holds }

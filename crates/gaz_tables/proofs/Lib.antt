@@ -8,6 +8,7 @@ pub mod Four
 pub mod Growing
 pub mod Making
 pub mod MetaTexts
+pub mod MigratingExamples
 pub mod Moving
 pub mod Queries
 pub mod ReceivedMeanings

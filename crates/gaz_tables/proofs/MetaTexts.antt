@@ -33,7 +33,7 @@ use Rattle.gaz_sql_facts.proofs.Updates.{updated, changed_to}
 use Rattle.gaz_tables.specs.Metas.{AddsMeta, FindsTwo, IsAny, Rewrites, id_of, rows_text}
 use Rattle.gaz_tables.specs.Schema.{meta_columns, meta}
 use Rattle.gaz_tables.specs.Stores.{ChangesTable, HasTables}
-use Rattle.gaz_tables.specs.Tables.{rows_of, tree_of}
+use Rattle.gaz_tables.specs.Tables.{HasTable, rows_of, tree_of}
 use Rattle.gaz_tables.specs.Texts.{insert_meta_text as insert_text, rewrite_meta_text as rewrite_text}
 
 abbrev pub rows_terms : List Term
@@ -46,8 +46,8 @@ pub rows_anywhere : MeansAnywhere meta rows_text rows_on
 unfolding everything
 rows_anywhere = anywhere meta rows_text rows_on refl refl (record { read = _; is = refl; command_is = refl; no_rows = refl; no_time = refl })
 
-pub rows_here : (db : Database) → HasTables db → IsSelect db.schema rows_text (selecting (tree_of meta db.schema) [] rows_terms [] (lit (Int (pos 2)))) (codes "id" ∷ codes "number" ∷ codes "register" ∷ [])
-rows_here db has = is_select db.schema rows_text _ _ (means_here meta db.schema has.there.metas rows_text rows_on rows_anywhere)
+pub rows_here : (db : Database) → HasTable meta db.schema → IsSelect db.schema rows_text (selecting (tree_of meta db.schema) [] rows_terms [] (lit (Int (pos 2)))) (codes "id" ∷ codes "number" ∷ codes "register" ∷ [])
+rows_here db has = is_select db.schema rows_text _ _ (means_here meta db.schema has rows_text rows_on rows_anywhere)
 
 pub rows_found : (db : Database) (r : Result (Vec Row Global) Error) → IfOk r (λ rows. Selects [] rows_terms [] (Some 2) (rows_of db meta) [] rows.items) → IfOk r (λ rows. FindsTwo (rows_of db meta) rows.items)
 rows_found db r h = answered r (λ answer s. shows_some [] rows_terms [] (rows_of db meta) IsAny (λ r there p. tt) (λ r there fits. refl) 2 answer s) h

@@ -1,5 +1,5 @@
 -- Which tables stand, and for what there is still room, while the tables and indexes of a store are made one by one.
-use Rattle.std.proofs.Common.{◌≡◌, ℕ, ◌^◌, true, false, nat_le, not, List, [], ◌∷◌, ◌++◌, inl, refl, subst}
+use Rattle.std.proofs.Common.{◌≡◌, ◌∙◌, ℕ, ◌^◌, true, false, nat_le, not, List, [], ◌∷◌, ◌++◌, inl, refl, sym, subst}
 use Rattle.std.specs.List.{list_all}
 use Rattle.sqlite_catalog.proofs.StepLemmas.{table_below}
 use Rattle.sqlite_rules.specs.Lists.{Has}
@@ -12,8 +12,9 @@ use Rattle.sqlite.specs.Schema.{Schema}
 use Rattle.sqlite.specs.Table.{Table}
 use Rattle.gaz_sql_facts.proofs.Grown.{all_free_beside, all_free_still, apart_gained, apart_still, counts_still, gained, spares, stands_gained, stands_still, unreferred_still}
 use Rattle.gaz_sql_facts.proofs.Sound.{low_tree}
-use Rattle.gaz_tables.proofs.Trees.{stands_too}
-use Rattle.gaz_tables.specs.Creating.{HasRoom, HasRoomFor, HasRoomForFirst, HasRoomForOthers, HasRoomForSecond, HasRoomForVersions, TakesIndex, TakesTable, first_in, index_put, others_in, store_in, table_put, versions_in}
+use Rattle.gaz_tables.proofs.Standing.{tree_is}
+use Rattle.gaz_tables.proofs.Trees.{stands_too, tree_too}
+use Rattle.gaz_tables.specs.Creating.{HasRoom, HasRoomFor, HasRoomForFirst, HasRoomForOthers, HasRoomForSecond, HasRoomForVersions, TakesIndex, TakesTable, first_in, index_put, others_in, second_in, store_in, table_put, versions_in}
 use Rattle.gaz_tables.specs.Schema.{by_blpu, by_street, by_blpu2, by_street2, version, received, meta, version2}
 use Rattle.gaz_tables.specs.Tables.{AreThere, HasTable, tree_of}
 
@@ -45,6 +46,10 @@ module _ (s : Schema) (u : Table) (none : u.references ≡ []) where
     is_like = has.is_like;
     apart = apart_still s u none has.table.tree (table_below s has.table (has_got s.tables has.place has.table has.stands.listed)) has.apart;
   }
+
+  tree_still : (like : Table) → HasTable like s → tree_of like (table_put u s) ≡ tree_of like s
+  unfolding has_still
+  tree_still like has = tree_is like (table_put u s) (has_still like has) ∙ sym (tree_is like s has)
 
   room_still : (tables indexes : List (List ℕ)) → u.is_counted ≡ false → spares s u (tables ++ indexes) ≡ true → HasRoomFor tables indexes s → HasRoomFor tables indexes (table_put u s)
   room_still tables indexes uncounted clear room = record {
@@ -109,6 +114,22 @@ module _ (s : Schema) (room : HasRoomForSecond s) where
     there = has_beside (table_put version2 s) version2 by_blpu2 version2 (version2_there low);
     free = (all_free_beside (table_put version2 s) (record version2 { tree = tree_of version2 (table_put version2 s) }) by_blpu2 (by_street2.name ∷ []) (all_free_still s version2 (by_street2.name ∷ []) (room.free.1.1.0, tt) refl) refl).0;
   }
+
+-- ---- what schema 2 has beside schema 1
+
+module _ (s : Schema) where
+  abbrev beside_first : Schema
+  beside_first = table_put version2 s
+
+  -- a table that stands in schema 1 stands in the whole, at its tree
+  pub in_second : (like : Table) → HasTable like s → HasTable like (second_in s)
+  in_second like has = has_beside (index_put version2 by_blpu2 beside_first) version2 by_street2 like (has_beside beside_first version2 by_blpu2 like (has_still s version2 refl like has))
+
+  pub second_tree : (like : Table) → HasTable like s → tree_of like (second_in s) ≡ tree_of like s
+  second_tree like has = tree_too like beside_first (second_in s) refl ∙ tree_still s version2 refl like has
+
+  pub second_there : HasRoomForSecond s → AreLow (second_in s) → HasTable version2 (second_in s)
+  second_there room low = has_beside (index_put version2 by_blpu2 beside_first) version2 by_street2 version2 (has_beside beside_first version2 by_blpu2 version2 (version2_there s room low))
 
 -- ---- `received` and `meta`
 
@@ -190,15 +211,9 @@ module _ (s : Schema) (room : HasRoom s) where
     abbrev room_others : HasRoomForOthers (versions_in s)
     room_others = others_then s room_for_first
 
-    -- what stands in schema 1 stands in the whole
-    in_second : (like : Table) → HasTable like (first_in s) → HasTable like (store_in s)
-    in_second like has =
-        has_beside (index_put version2 by_blpu2 (table_put version2 (first_in s))) version2 by_street2 like
-        (has_beside (table_put version2 (first_in s)) version2 by_blpu2 like (has_still (first_in s) version2 refl like has))
-
     pub old_there : HasTable version (store_in s)
     old_there =
-        in_second version
+        in_second (first_in s) version
         (has_still others meta refl version
         (has_still (versions_in s) received refl version
         (has_beside (index_put version by_blpu (table_put version s)) version by_street version
@@ -206,12 +221,10 @@ module _ (s : Schema) (room : HasRoom s) where
 
     pub all_there : AreThere (store_in s)
     all_there = record {
-      versions =
-          has_beside (index_put version2 by_blpu2 (table_put version2 (first_in s))) version2 by_street2 version2
-          (has_beside (table_put version2 (first_in s)) version2 by_blpu2 version2 (version2_there (first_in s) room_for_second low));
+      versions = second_there (first_in s) room_for_second low;
       receiveds =
-          in_second received
+          in_second (first_in s) received
           (has_still others meta refl received
           (has_gained (versions_in s) received refl (takes_received (versions_in s) room_others) (last_low (versions_in s) received low_received)));
-      metas = in_second meta (has_gained others meta refl (takes_meta (versions_in s) room_others) (last_low others meta low_first));
+      metas = in_second (first_in s) meta (has_gained others meta refl (takes_meta (versions_in s) room_others) (last_low others meta low_first));
     }

@@ -1,4 +1,4 @@
--- Each statement over one table stands wherever its table does.
+-- Each statement over one table stands wherever its table does, and the copy wherever both of its tables do.
 use Rattle.gaz_tables.specs.Laws.{StatementsStandAlone}
 use Rattle.gaz_tables.proofs.CustodyQueries as custody
 use Rattle.gaz_tables.proofs.MetaTexts as metas
@@ -34,4 +34,5 @@ statements = record {
   insert_meta = (metas.insert_on, metas.insert_anywhere);
   rewrite_meta = (metas.rewrite_on, metas.rewrite_anywhere);
   empty_versions = (moving.empty_on, moving.empty_anywhere);
+  copy_versions = (moving.copy_terms, moving.copy_collations, moving.copy_anywhere);
 }

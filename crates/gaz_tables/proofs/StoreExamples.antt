@@ -28,7 +28,7 @@ with_another = record {
   metas = record { table = meta; place = 3; stands = record { named = refl; listed = refl; by_tree = refl; stored = refl }; is_like = likes_itself meta; apart = (refl, (refl, (refl, (refl, (refl, tt))))) };
 }
 
-moved_like : (like : Table) (tree : ℕ) → IsLike like (record like { tree = tree })
+pub moved_like : (like : Table) (tree : ℕ) → IsLike like (record like { tree = tree })
 moved_like like tree = record { name = refl; columns = refl; key = refl; uniques = refl; orders = refl; computed = refl; stamps = refl; is_counted = refl }
 
 in_another_order : AreThere reordered

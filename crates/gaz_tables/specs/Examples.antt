@@ -1,11 +1,13 @@
 -- Worked examples: what is found among four rows of `version2` and three of `received`, what a
--- write makes of a row, which schemas have a store's tables, and which have room for them.
+-- write makes of a row, which schemas have a store's tables, which have room for them, and which
+-- are migrated.
 use Rattle.std.specs.Prelude.{◌≡◌, ℕ, ℤ, pos, List, [], ◌∷◌, codes, true, false}
 use Rattle.sqlite.specs.Order.{Row}
 use Rattle.sqlite.specs.declared.types.Value.TheVariants.{Int, Text, Blob}
 use Rattle.gaz_tables.specs.CreatingExamples.{WorkedCreating}
 use Rattle.gaz_tables.specs.CustodyExamples.{WorkedCustody}
 use Rattle.gaz_tables.specs.Metas.{meta_row, meta_shown}
+use Rattle.gaz_tables.specs.MigratingExamples.{WorkedMigrating}
 use Rattle.gaz_tables.specs.Receiveds.{FindsAbove, FindsVerdict, file_shown, judged, unjudged}
 use Rattle.gaz_tables.specs.Rowids.{FindsBehind, FindsFirst, row_shown}
 use Rattle.gaz_tables.specs.StoreExamples.{WorkedStores}
@@ -100,3 +102,4 @@ pub record WorkedExamples : Type 0 where
   pub on_custody : WorkedCustody
   pub on_stores : WorkedStores
   pub on_creating : WorkedCreating
+  pub on_migrating : WorkedMigrating

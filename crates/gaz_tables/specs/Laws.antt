@@ -1,19 +1,23 @@
 -- What whoever keeps something in the tables may rest on.
 use Rattle.std.specs.Prelude.{◌≡◌, ◌≢◌, ℕ, List}
+use Rattle.sqlite_value.specs.declared.keys.Collation.{Collation}
 use Rattle.sqlite.specs.Effect.{Database, IsDatabase}
 use Rattle.sqlite.specs.Order.{Row}
 use Rattle.sqlite.specs.View.{IsShaped}
 use Rattle.sqlite_rules.specs.Lists.{Has}
 use Rattle.sqlite_schema.specs.declared.schema.Table.{Table}
+use Rattle.sqlite_sql.specs.Term.{Term}
 use Rattle.sqlite_trees.specs.declared.store.Shape.TheVariants as shape
-use Rattle.gaz_sql_facts.specs.Meaning.{MeansAnywhere, OnTable}
+use Rattle.gaz_sql_facts.specs.Meaning.{CopiesAnywhere, MeansAnywhere, OnTable}
 use Rattle.gaz_tables.specs.Metas.{rows_text}
+use Rattle.gaz_tables.specs.Migrating.{HasFirstTables}
 use Rattle.gaz_tables.specs.Receiveds.{IsVolume}
-use Rattle.gaz_tables.specs.Schema.{meta, received, store_schema, version, version2}
+use Rattle.gaz_tables.specs.Schema.{first_schema, meta, received, store_schema, version, version2}
 use Rattle.gaz_tables.specs.Stores.{ChangesTable, HasTables}
 use Rattle.gaz_tables.specs.Tables.{HasTable, rows_of}
 use Rattle.gaz_tables.specs.Texts.{apply_text, approved_of_text, approved_on_text}
-use Rattle.gaz_tables.specs.Texts.{close_version_text, custody_behind_text, empty_versions_text}
+use Rattle.gaz_tables.specs.Texts.{close_version_text, copy_versions_text}
+use Rattle.gaz_tables.specs.Texts.{custody_behind_text, empty_versions_text}
 use Rattle.gaz_tables.specs.Texts.{file_text, first_rows_text, held_versions_text}
 use Rattle.gaz_tables.specs.Texts.{insert_meta_text, insert_version_text, newest_custody_text}
 use Rattle.gaz_tables.specs.Texts.{newest_custody_until_text, newest_version_text}
@@ -53,6 +57,12 @@ OwnTables = (db : Database) → db.schema ≡ store_schema → IsDatabase db
     → IsShaped shape.Table (rows_of db version2) → IsShaped shape.Table (rows_of db received)
     → IsShaped shape.Table (rows_of db meta) → HasTables db
 
+-- a sound database of schema 1's own schema has the tables of schema 1, and room for schema 2
+abbrev pub OwnFirstTables : Type 0
+OwnFirstTables = (db : Database) → db.schema ≡ first_schema → IsDatabase db
+    → IsShaped shape.Table (rows_of db version) → IsShaped shape.Table (rows_of db received)
+    → IsShaped shape.Table (rows_of db meta) → HasFirstTables db
+
 -- where a database has a store's tables, each of the same trees has them, with the same rows
 abbrev pub TreesTell : Type 0
 TreesTell = (one other : Database) → HasTables one → IsDatabase other → other.trees ≡ one.trees
@@ -62,7 +72,12 @@ TreesTell = (one other : Database) → HasTables one → IsDatabase other → ot
 abbrev pub HangsOn : Table → List ℕ → Type 0
 HangsOn table text = (it : OnTable) × MeansAnywhere table text it
 
--- no statement over one table asks for anything beside it
+-- the text copies one table into another, in any schema in which two such tables stand
+abbrev pub HangsOnBoth : Table → Table → List ℕ → Type 0
+HangsOnBoth source target text = (project : List Term) × (collations : List Collation)
+    × CopiesAnywhere source target text project collations
+
+-- no statement over one table asks for anything beside it, nor the copy for anything beside its two
 pub record StatementsStandAlone : Type 0 where
   pub newest_version : HangsOn version2 newest_version_text
   pub newest_version_until : HangsOn version2 newest_version_until_text
@@ -87,3 +102,4 @@ pub record StatementsStandAlone : Type 0 where
   pub insert_meta : HangsOn meta insert_meta_text
   pub rewrite_meta : HangsOn meta rewrite_meta_text
   pub empty_versions : HangsOn version empty_versions_text
+  pub copy_versions : HangsOnBoth version version2 copy_versions_text

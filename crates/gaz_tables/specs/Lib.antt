@@ -6,6 +6,7 @@ pub mod Examples
 pub mod Laws
 pub mod Metas
 pub mod Migrating
+pub mod MigratingExamples
 pub mod Receiveds
 pub mod Rowids
 pub mod Schema

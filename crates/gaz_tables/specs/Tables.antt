@@ -7,7 +7,7 @@ use Rattle.sqlite_schema.specs.Names.{table_named}
 use Rattle.sqlite.specs.Effect.{Database}
 use Rattle.sqlite.specs.Order.{Row}
 use Rattle.gaz_sql_facts.specs.Standing.{IsApart, StandsAt}
-use Rattle.gaz_tables.specs.Schema.{meta, received, version2}
+use Rattle.gaz_tables.specs.Schema.{meta, received, version, version2}
 
 -- the tree of the table of a name, or 0 where no table has it
 unfoldable pub tree_named : Schema → List ℕ → ℕ
@@ -42,6 +42,12 @@ pub record HasTable (like : Table) (schema : Schema) : Type 0 where
   pub stands : StandsAt schema place table
   pub is_like : IsLike like table
   pub apart : IsApart schema table.tree
+
+-- the three tables of schema 1 stand in the schema, whatever else it has
+pub record AreFirstThere (schema : Schema) : Type 0 where
+  pub versions : HasTable version schema
+  pub receiveds : HasTable received schema
+  pub metas : HasTable meta schema
 
 -- the three tables of a store stand in the schema, whatever else it has
 pub record AreThere (schema : Schema) : Type 0 where

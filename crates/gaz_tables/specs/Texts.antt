@@ -1,4 +1,4 @@
--- The statements over one table, as they are written.
+-- The statements over one table, and the one that copies a table, as they are written.
 use Rattle.std.specs.Prelude.{ℕ, List, codes}
 
 -- ---- `version2`: items
@@ -78,3 +78,8 @@ rewrite_meta_text = codes "UPDATE meta SET number = ?1, register = ?2 WHERE id =
 
 abbrev pub empty_versions_text : List ℕ
 empty_versions_text = codes "DELETE FROM version"
+
+-- ---- `version` into `version2`
+
+abbrev pub copy_versions_text : List ℕ
+copy_versions_text = codes "INSERT INTO version2 SELECT cust, kind, id, blpu, street, lang, live, born, gone, body, 0 FROM version"

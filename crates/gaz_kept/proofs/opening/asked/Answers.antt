@@ -12,4 +12,4 @@ returns-clause-answered g c clean =
 pub returns-clause-found : goal.returns-clause-found
 returns-clause-found g c clean has =
     let before : HasCleanDisk (state g.S.Store c.rows-found.new.tx.conn.now) = search rules in
-    found g.S.Store c.args.conn.now c.transaction-tx.result.conn.now c.rows-found.new.tx.conn.now c.transaction-tx.ensures.begun c.rows-found.result (c.rows-found.ensures.found before) (c.rows-found.ensures.answered before) has
+    found g.S.Store c.args.conn.now c.transaction-tx.result.conn.now c.rows-found.new.tx.conn.now c.transaction-tx.ensures.begun c.rows-found.result (c.rows-found.ensures.answered before) has

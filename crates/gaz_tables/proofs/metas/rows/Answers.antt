@@ -8,11 +8,11 @@ use Rattle.gaz_tables.proofs.metas.rows.Goals as goal
 pub returns-clause-found : goal.returns-clause-found
 returns-clause-found g c clean has =
     rows_found (state g.S.Store c.args.tx.now.conn.now).now c.query_all.result
-    (answers _ _ _ _ _ _ _ _ (rows_here (state g.S.Store c.args.tx.now.conn.now).now has) _ (state g.S.Store c.args.tx.now.conn.now) (state g.S.Store c.query_all.new.self.conn.now) refl c.query_all.result (c.query_all.ensures.ok clean))
+    (answers _ _ _ _ _ _ _ _ (rows_here (state g.S.Store c.args.tx.now.conn.now).now has.there.metas) _ (state g.S.Store c.args.tx.now.conn.now) (state g.S.Store c.query_all.new.self.conn.now) refl c.query_all.result (c.query_all.ensures.ok clean))
 
 pub returns-clause-stays : goal.returns-clause-stays
 returns-clause-stays g c clean has =
-    stays _ _ _ _ _ _ _ _ (rows_here (state g.S.Store c.args.tx.now.conn.now).now has) _ (state g.S.Store c.args.tx.now.conn.now) (state g.S.Store c.query_all.new.self.conn.now) refl c.query_all.result (c.query_all.ensures.ok clean)
+    stays _ _ _ _ _ _ _ _ (rows_here (state g.S.Store c.args.tx.now.conn.now).now has.there.metas) _ (state g.S.Store c.args.tx.now.conn.now) (state g.S.Store c.query_all.new.self.conn.now) refl c.query_all.result (c.query_all.ensures.ok clean)
 
 pub returns-clause-open : goal.returns-clause-open
 returns-clause-open g c clean = open_query _ _ (state g.S.Store c.args.tx.now.conn.now) (state g.S.Store c.query_all.new.self.conn.now) c.query_all.result (c.query_all.ensures.ok clean)

@@ -1,5 +1,5 @@
 use Rattle.sqlite.specs.Held.{state}
-use Rattle.gaz_tables.proofs.Four.{four_still, tables_of}
+use Rattle.gaz_tables.proofs.Four.{four_still}
 use Rattle.gaz_tables.proofs.Moving.{moves}
 use Rattle.gaz_tables.proofs.Steps.{clean_before, inside_done, inside_failed, inside_then}
 use Rattle.gaz_tables.specs.Schema.{version2}
@@ -22,5 +22,5 @@ returns-clause-moved g c clean has none =
     let old = (state g.S.Store c.args.tx.now.conn.now).now in
     let mid = (state g.S.Store c.copy_rows.new.tx.conn.now).now in
     let copied = (one.copied (clean_before g.S.Store _ _ _ _ _ one.inside two.inside clean) has).0 in
-    let still = four_still version2 _ old mid has (tables_of old has).there.versions copied in
+    let still = four_still version2 _ old mid has has.tables.there.versions copied in
     moves old mid (state g.S.Store c.empty_rows.new.tx.conn.now).now has none copied (two.emptied clean still).0

@@ -1,6 +1,5 @@
 use Rattle.sqlite.specs.Held.{state}
-use Rattle.gaz_tables.proofs.Four.{tables_of}
-use Rattle.gaz_tables.proofs.Moving.{gains_store, has_room, migrates, none_yet, tables_gained}
+use Rattle.gaz_tables.proofs.Moving.{migrates, none_yet, tables_gained}
 use Rattle.gaz_tables.proofs.Steps.{clean_before, inside_done, inside_failed, inside_then}
 use Rattle.gaz_tables.proofs.migrating.refit.Goals as goal
 
@@ -31,6 +30,6 @@ returns-clause-migrated g c clean has =
     let moved = (state g.S.Store c.move_rows.new.tx.conn.now).now in
     let late = clean_before g.S.Store _ _ _ _ _ (inside_then g.S.Store _ _ _ _ _ one.inside two.inside) three.inside clean in
     let early = clean_before g.S.Store _ _ _ _ _ one.inside two.inside late in
-    let gains = gains_store old has made (one.made early (has_room old has)) in
+    let gains = one.made early has.room in
     let moves = two.moved late (tables_gained old made has gains) (none_yet old made has gains) in
-    migrates old made has gains moved (state g.S.Store c.rewrite.new.tx.conn.now).now c.args.number c.args.register.now moves (three.rewritten clean (tables_of moved moves.tables)).0
+    migrates old made has gains moved (state g.S.Store c.rewrite.new.tx.conn.now).now c.args.number c.args.register.now moves (three.rewritten clean moves.tables.tables).0

@@ -9,7 +9,7 @@ use Rattle.gaz_tables.specs.Tables.{rows_of}
 use Rattle.gaz_kept.specs.Kept.{IsKept}
 use Rattle.gaz_kept.specs.Opening.{IsOf, Judges, Tells}
 use Rattle.gaz_kept.specs.OpeningFirst.{IsOfFirst, JudgesFirst, MayMove, Moves, TellsFirst, Untouched}
-use Rattle.gaz_kept.proofs.MetaRows.{is_first}
+use Rattle.gaz_kept.proofs.FirstTables.{is_first}
 use Rattle.gaz_kept.proofs.Moved.{clean_before}
 use Rattle.gaz_store.proofs.Beginning.{is_moved, is_opened}
 use Rattle.gaz_store.proofs.store.Store.migrate.Goals as goal
@@ -58,4 +58,4 @@ returns-in-Ok-clause-moved g c =
     (subst (λ h. HasCleanDisk (state g.S.Store h) → HasCleanDisk was) (sym c.over.ensures.conn) before)
     (subst (λ h. Moves g.S.Store c.args.conn h (Ok tt) text) (sym c.over.ensures.conn) c.in-Ok.ensures.moved)
     (subst (λ h. HasCleanDisk (state g.S.Store h) → HasFirstTables was.now → IsOfFirst text (rows_of was.now meta)) (sym c.over.ensures.conn) (λ clean has. c.in-Ok.ensures.judged_first clean has))
-    (subst (λ h. HasFirstTables was.now → LeavesTheCommit (state g.S.Store h)) (sym c.over.ensures.conn) (λ has. c.in-Ok.ensures.certain (is_first was.now.schema has.schema_is)))
+    (subst (λ h. HasFirstTables was.now → LeavesTheCommit (state g.S.Store h)) (sym c.over.ensures.conn) (λ has. c.in-Ok.ensures.certain (is_first was.now has)))
