@@ -11,7 +11,6 @@ use Rattle.gaz_tables.specs.Schema.{meta}
 use Rattle.gaz_tables.specs.Stores.{HasTables}
 use Rattle.gaz_tables.specs.Tables.{rows_of}
 use Rattle.gaz_views.specs.View.{empty_view}
-use Rattle.gaz_kept.specs.Contents.{content_in}
 use Rattle.gaz_kept.specs.Kept.{IsKept}
 use Rattle.gaz_kept.specs.Opening.{IsOf, Tells}
 use Rattle.gaz_kept.proofs.Rewritten.{rewrites_stand}

@@ -1,8 +1,7 @@
 -- A store that is made of the tables of schema 1 stands for the hub that they stood for.
-use Rattle.std.proofs.Common.{◌≡◌, inl, inr, Bool, true, false, List, ℕ, Ok, arith, refl, sym, ap, subst}
+use Rattle.std.proofs.Common.{◌≡◌, inl, inr, Bool, true, false, Ok, arith, refl, sym, ap, subst}
 use Rattle.std.specs.declared.marker.Brand.{Brand}
 use Rattle.sqlite.specs.Held.{Held, state}
-use Rattle.sqlite.specs.Schema.{Schema}
 use Rattle.sqlite.specs.State.{HasCleanDisk}
 use Rattle.sqlite_trees.specs.declared.store.Store.{Ghosts}
 use Rattle.gaz_register.specs.Registers.{RegisterValue, blocks_of}
@@ -10,7 +9,6 @@ use Rattle.gaz_register.specs.Texts.{register_text}
 use Rattle.gaz_views.specs.View.{empty_view}
 use Rattle.gaz_kept.specs.Opening.{Tells}
 use Rattle.gaz_kept.specs.OpeningFirst.{MayMove, TellsFirst, Untouched, has_first}
-use Rattle.gaz_kept.specs.declared.refusal.StoreRefusal.{StoreRefusal}
 use Rattle.gaz_kept.proofs.Migrated.{migration_stands}
 use Rattle.gaz_hub.specs.Hubs.{AreKnown, door_of, state_of}
 use Rattle.gaz_hub.specs.Standing.{IsPartial}
@@ -19,7 +17,7 @@ use Rattle.gaz_store.specs.Migrating.{IsMoved}
 use Rattle.gaz_store.specs.Store.{seen_in}
 use Rattle.gaz_store.specs.declared.store.Store.{Store}
 use Rattle.gaz_stored.specs.Migrating.{MigratedStands, MigratesOpened, StopsMoving, told_of}
-use Rattle.gaz_stored.specs.declared.migrating.Migration.TheVariants.{Done, Current}
+use Rattle.gaz_stored.specs.declared.migrating.Migration.TheVariants.{Current}
 
 pub migrated_stands : MigratedStands
 migrated_stands register old new was mine moves =
@@ -62,5 +60,6 @@ module _ {S : Type 0} (g : Ghosts S) (register : RegisterValue) (before : Held S
         of_store = told;
         of_first = told_first;
         current = λ e. untouched (subst (λ b. b ≡ false) is (not_first first e));
+        becomes = λ fine has. moved.becomes fine has;
         moves = λ fine was. migrated_stands register (state g before).now (state g store.tables.conn).now was (moved.of_register fine was.kept.tables) (moved.becomes fine was.kept.tables);
       })

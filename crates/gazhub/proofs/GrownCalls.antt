@@ -1,5 +1,5 @@
 -- Calls over the same files, between which the store's register grows, are one run of one hub.
-use Rattle.std.proofs.Common.{◌≡◌, ◌∙◌, List, [], ◌∷◌, ap, map, subst, sym}
+use Rattle.std.proofs.Common.{◌∙◌, List, [], ◌∷◌, ap, map, subst, sym}
 use Rattle.sqlite.specs.Effect.{Database}
 use Rattle.sqlite_disk.specs.declared.Disk as disk
 use Rattle.gaz_register.specs.Registers.{RegisterValue}
@@ -7,7 +7,7 @@ use Rattle.gaz_register.proofs.Grown.{extends-composes}
 use Rattle.gaz_stored.specs.GrownChains.{GrownChain, GrownChainsAreOne}
 use Rattle.gaz_stored.specs.Runs.{GoesOn, StandForRun, hub_in}
 use Rattle.gazhub.specs.Grown.{AreGrown, GrownCallsAreOne, IsOneGrownRun, Stay, turn_of}
-use Rattle.gazhub.specs.Visits.{AreWhole, Closes, IsWhole, Visit, found_by, left_by}
+use Rattle.gazhub.specs.Visits.{AreWhole, Closes, IsWhole, Visit, left_by}
 use Rattle.gazhub.proofs.Joining.{found_again}
 
 module _ {D : Type 0} (g : disk.Ghosts D) (one : GrownChainsAreOne) where

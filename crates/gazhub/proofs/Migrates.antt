@@ -1,5 +1,5 @@
 -- What is said where a store was to be migrated.
-use Rattle.std.proofs.Common.{◌≡◌, inr, Bool, true, false, Ok, Err, Result, IfOk, IfErr, refl, sym, subst}
+use Rattle.std.proofs.Common.{◌≡◌, inr, Bool, true, false, Ok, Err, Result, IfOk, IfErr, refl}
 use Rattle.std.specs.Prelude.{Option}
 use Rattle.sqlite.specs.Files.{file_state, over_files}
 use Rattle.sqlite.specs.Held.{Held}
@@ -19,7 +19,7 @@ use Rattle.gaz_stored.specs.Runs.{GoesOn, StandForRun, hub_in}
 use Rattle.gaz_stored.specs.declared.migrating.Migration.{Migration}
 use Rattle.gaz_stored.specs.declared.migrating.Migration.TheVariants.{Done, Current}
 use Rattle.gazhub.specs.Migrating.{MigratesNone, MigratesStore, asks_nothing}
-use Rattle.gazhub.specs.Visits.{Closes, Connects, left_by}
+use Rattle.gazhub.specs.Visits.{Closes, Connects}
 use Rattle.gazhub.proofs.Opening.{declined}
 use Rattle.gazhub.proofs.Resting.{goes_on_resting}
 

@@ -1,8 +1,10 @@
 -- Worked examples on what is done at a site.
-use Rattle.std.proofs.Common.{List, ℕ, Ok, ap, inl, inr, refl, subst, sym, true}
-use Rattle.std.specs.Prelude.{Option, Some, None, [], ◌∷◌}
+use Rattle.std.proofs.Common.{List, ℕ, Ok, ap, arith, inl, inr, refl, subst, sym, true}
+use Rattle.std.specs.Prelude.{◌≤◌, Option, Some, None, [], ◌∷◌}
 use Rattle.sqlite_disk.specs.declared.Disk as disk
 use Rattle.gaz_register.specs.Registers.{RegisterValue}
+use Rattle.gaz_words.specs.declared.command.Places.{Places}
+use Rattle.gazhub.specs.Serving.{AreLeft, All, Fewer}
 use Rattle.gazhub.specs.Sites.{Deed, FindsRegister, IsRegisterOf, Listened, NoFiles, Opened, Read}
 use Rattle.gazhub.specs.WorkedSites.{WorkedSites, nothing_done, read_in_vain}
 
@@ -18,6 +20,12 @@ module _ {D : Type 0} (g : disk.Ghosts D) where
   not_found : (path : List ℕ) (register : RegisterValue) → FindsRegister (nothing_done g) (read_in_vain g path) path (Ok register) → ⊥
   unfolding bytes_in
   not_found path register it = subst (λ bytes. IsRegisterOf bytes (Ok register)) (sym (ap bytes_in it.does)) it.told
+
+  none_more : (places : Places) (port connections : ℕ) (before : Option (List (Deed D))) (left : ℕ) (after : Option (List (Deed D))) → AreLeft g places port connections before left after → left ≤ connections
+  none_more places port connections before left after All = omega (arith)
+  none_more places port connections before left after (Fewer rest served fewer between last are once is) =
+      let below = none_more places port connections before rest between are in
+      omega (arith, below, is)
 
   pub worked : WorkedSites g
   worked = record {
@@ -37,6 +45,8 @@ module _ {D : Type 0} (g : disk.Ghosts D) where
     ];
     failed = λ fault. (refl, refl);
     not_done = λ fault it. absurd (let same = it.0 in cc);
+    all_left = λ places port connections done. All;
+    none_more = none_more;
     lost = λ places port connections after why it. elim it [ ];
     not_explained = λ it. it;
   }

@@ -78,7 +78,7 @@ pub record Finishes (Works : Result Said WhyNoHub → Type 0) (through : Transfe
   pub finished : IsFinished through.held through.holds told ending
   pub silent : StaysSilent through ending
 
--- how the program ends where help was asked for, or the words are at fault
+-- how the program ends where help was asked for, or something is wrong with the words
 abbrev pub IsExplained : Ending → Type 0
 IsExplained Done = Unit {0}
 IsExplained Usage = Unit {0}
@@ -110,7 +110,7 @@ module _ {D : Type 0} (g : disk.Ghosts D) (text : List ℕ) (most : ℕ)
       Finishes (ExtendComesTo g places path.now before after) through ending
   EndsAt (Migrate places) ending = Finishes (MigrateComesTo g places before after) through ending
 
-  -- help is printed, or is said to be at fault, and nothing is done
+  -- help is printed, or what is wrong with the words is told, and nothing is done
   pub record Explains (ending : Ending) : Type 0 where
     pub explained : IsExplained ending
     pub silent : StaysSilent through ending

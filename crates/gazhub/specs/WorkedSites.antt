@@ -1,5 +1,5 @@
 -- Worked examples on what is done at a site, and on how the program ends.
-use Rattle.std.specs.Prelude.{[], ◌∷◌, ℕ, suc, true, List, Option, Some, None, Ok, Err}
+use Rattle.std.specs.Prelude.{◌≤◌, [], ◌∷◌, ℕ, suc, true, List, Option, Some, None, Ok, Err}
 use Rattle.std.specs.Borrow.{Bor}
 use Rattle.sqlite_disk.specs.declared.Disk as disk
 use Rattle.gaz_commands.specs.declared.said.CommandFault.{CommandFault}
@@ -10,7 +10,7 @@ use Rattle.gaz_register.specs.Registers.{RegisterValue}
 use Rattle.gaz_words.specs.declared.command.Call.TheVariants.{Status, Submit}
 use Rattle.gaz_words.specs.declared.command.Places.{Places}
 use Rattle.gazhub.specs.Commands.{IsExplained, IsTold}
-use Rattle.gazhub.specs.Serving.{Listens, ServesRest}
+use Rattle.gazhub.specs.Serving.{AreLeft, Listens, ServesRest}
 use Rattle.gazhub.specs.Sites.{Deed, Does, FindsRegister, Listened, Opened, Read, ReadsFor, WithFiles}
 use Rattle.gazhub.specs.Sites.{whole}
 use Rattle.gazhub.specs.declared.ending.Ending.TheVariants.{Done, Failed, NoHub, NotDone}
@@ -52,6 +52,12 @@ module _ {D : Type 0} (g : disk.Ghosts D) where
     -- a fault ends the program as one, and prints nothing
     pub failed : (fault : CommandFault) → IsTold (Some []) (Some []) (said.Failed fault) (Failed fault)
     pub not_done : (fault : CommandFault) → ¬ IsTold (Some []) (Some []) (said.Failed fault) Done
+    -- behind no opening all connections are left, and behind any no more than were wanted
+    pub all_left : (places : Places) (port connections : ℕ) (done : Option (List (Deed D)))
+        → AreLeft g places port connections done connections done
+    pub none_more : (places : Places) (port connections : ℕ) (before : Option (List (Deed D)))
+        (left : ℕ) (after : Option (List (Deed D)))
+        → AreLeft g places port connections before left after → left ≤ connections
     -- where no hub was there to begin with, none was lost
     pub lost : (places : Places) (port connections : ℕ) (after : Option (List (Deed D)))
         (why : WhyNoHub) → ¬ ServesRest g places port connections nothing_done after (NoHub why)

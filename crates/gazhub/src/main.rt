@@ -17,6 +17,8 @@ mod purpose;
 mod sample;
 mod site;
 mod stores;
+#[cfg(test)]
+mod trials;
 
 use gaz_ledger::Seed;
 use host::Host;
