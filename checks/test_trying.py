@@ -141,6 +141,28 @@ fn again(n: u8) {
         self.assertIn("use Rattle.small.proofs.a.b.Shelf.two.Statement as stated", made["proofs/a/b/Shelf/two/Proof.antt"])
         self.assertEqual(self.SHELF, made["src/a/b.rt"])
 
+    def test_a_method_whose_proof_has_another_name_has_none(self):
+        more = """
+impl From<u8> for Shelf {
+    fn from(n: u8) -> Shelf {
+        Shelf
+    }
+}
+
+impl<T: Copy> Keeps for T {
+    fn keeps(&self) {
+    }
+}
+
+impl Drop for Shelf {
+    fn drop(&mut self) {
+    }
+}
+"""
+        bare, full = (set(holes("small", {"src/a/b.rt": it}, set())) for it in (self.SHELF, self.SHELF + more))
+        self.assertEqual(bare, full)
+        self.assertIn("proofs/a/b/ShelfKeeps/keeps/Proof.antt", full)
+
     def test_what_no_edit_changes_does_nothing(self):
         changed = {it for it in functions("src/lib.rt", LIBRARY) if it.name == "lesser"}
         made = holes("small", {"src/lib.rt": LIBRARY}, changed)["src/lib.rt"]
