@@ -27,7 +27,7 @@ use Rattle.gaz_sql_facts.specs.Simple.{is_simple_select}
 use Rattle.gaz_sql_facts.specs.Standing.{StandsAt}
 use Rattle.gaz_sql_facts.proofs.InsertMoves.{insert_is, insert_was, places_same, row_same}
 use Rattle.gaz_sql_facts.proofs.Looks.{as_read}
-use Rattle.gaz_sql_facts.proofs.SelectMoves.{answer_at, query_alone, query_moves, ungrouped_is}
+use Rattle.gaz_sql_facts.proofs.SelectMoves.{query_alone, query_moves, ungrouped_is}
 use Rattle.gaz_sql_facts.proofs.Typing.{at_tree, drafted, program_moves, query_at, same_ok, taken}
 
 -- the draft with a row's terms
@@ -53,9 +53,6 @@ module _ (s s' : Schema) (place place' at at' : ℕ) (from_like from target into
 
   abbrev laid : Table → ℕ → List ℕ → Answered × List Let → Checked NewRows
   laid t base to q = and_then (as_row t base to q.0.0) (λ r. Ok (new.Query q.1 (laid_as q.0.0 r)))
-
-  abbrev typed_in : Schema → Draft → Checked Source
-  typed_in schema d = and_then (program schema [] d) (λ p. Ok (source.Query p))
 
   -- ---- what is selected, once it is known which query it was
 

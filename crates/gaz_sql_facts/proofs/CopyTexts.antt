@@ -1,5 +1,5 @@
 -- What a text means that copies one table into another where these are alone, it means wherever both stand.
-use Rattle.std.proofs.Common.{◌≡◌, ℕ, ◌+◌, false, nat_le, ◌^◌, true, List, [], ◌++◌, None, Ok, Err, refl, sym, ap, subst, ◌∙◌}
+use Rattle.std.proofs.Common.{◌≡◌, ℕ, ◌+◌, true, List, [], ◌++◌, None, Ok, Err, refl, sym, ap, subst, ◌∙◌}
 use Rattle.std.proofs.lemmas.Bool.{and_parts}
 use Rattle.std.proofs.lemmas.Slice.Eq.{bytes_eq-Decides}
 use Rattle.sqlite_value.specs.declared.keys.Collation.{Collation}
@@ -15,7 +15,7 @@ use Rattle.sqlite_schema.specs.declared.program.Program.{Program}
 use Rattle.sqlite_schema.specs.declared.schema.Schema.{Schema}
 use Rattle.sqlite_schema.specs.declared.schema.Table.{Table}
 use Rattle.sqlite_resolve.specs.declared.compiled.Compiled.{Compiled}
-use Rattle.sqlite_resolve.specs.Compile.{compiled, first, formats_of, insert, planned, small, with_command}
+use Rattle.sqlite_resolve.specs.Compile.{compiled, first, insert, planned, small, with_command}
 use Rattle.sqlite_resolve.specs.Lowering.{Checked, and_then}
 use Rattle.sqlite_resolve.specs.Scope.{Name}
 use Rattle.gaz_sql_facts.specs.Copies.{copying}

@@ -58,7 +58,7 @@ finished_is d e by how kept n s h none =
     let r = taken (value_of (completed d by how kept (record s { next = if length by == 0 then n + 1 else s.next }))) _ e h in
     grouped_is r.0.0 e r.0.1 r.2 none
 
-abbrev pub answer_at : ℕ → Answered → Answered
+abbrev answer_at : ℕ → Answered → Answered
 answer_at tree it = (at_tree tree it.0, it.1, it.2)
 
 module _ (like table : Table) (place : ℕ) (core : Core) (page : Term × Term) (all : List Output) (filter : List Term) (order : List (Term × Key)) (st : State) (it : Answered) (alone : it.0.group ≡ None) (from : it.0.from ≡ inner like.tree end) where

@@ -150,6 +150,3 @@ texts_stand_alone like text it first simple means schema at table reads stands =
 -- so it is, where it is computed over a table that a store has
 pub anywhere : (table : Table) (text : List ℕ) (it : OnTable) → nat_le (2 ^ 31) table.tree ≡ false → is_simple_text table text ≡ true → Means (alone table) text (placed 0 table.tree it) → MeansAnywhere table text it
 anywhere table text it low simple means = texts_stand_alone table text it (stands_alone table low) simple means
-
-pub reads_itself : (table : Table) → ReadsAs table table
-reads_itself table = record { name = refl; columns = refl; key = refl; computed = refl; stamps = refl }

@@ -1,8 +1,6 @@
 -- Of which schemas a migration is said, and what becomes of them.
-use Rattle.std.proofs.Common.{◌≡◌, ◌∙◌, inl, inr, ℕ, codes, List, [], ◌∷◌, Option, None, Some, arith, refl, sym, ap, subst}
+use Rattle.std.proofs.Common.{◌≡◌, ◌∙◌, inl, inr, ℕ, codes, List, [], ◌∷◌, None, Some, arith, refl, sym, ap, subst}
 use Rattle.sqlite_rules.specs.Lists.{Has}
-use Rattle.sqlite_schema.specs.declared.schema.Schema.{Schema}
-use Rattle.sqlite_schema.specs.declared.schema.Table.{Table}
 use Rattle.sqlite_schema.specs.Names.{index_named, same_name, table_named}
 use Rattle.sqlite.specs.Effect.{Database}
 use Rattle.sqlite.specs.Order.{Row}
@@ -11,7 +9,7 @@ use Rattle.gaz_tables.proofs.Four.{first_there}
 use Rattle.gaz_tables.proofs.StoreExamples.{moved_like}
 use Rattle.gaz_tables.specs.Creating.{HasRoomForSecond, second_in}
 use Rattle.gaz_tables.specs.Migrating.{Migrates}
-use Rattle.gaz_tables.specs.MigratingExamples.{AwaitsSecond, WorkedMigrating, beside_version2, one_reason, reordered_first, with_by_blpu2, without_files}
+use Rattle.gaz_tables.specs.MigratingExamples.{WorkedMigrating, beside_version2, one_reason, reordered_first, with_by_blpu2, without_files}
 use Rattle.gaz_tables.specs.Schema.{meta, received, store_schema, version, version2}
 use Rattle.gaz_tables.specs.StoreExamples.{reasons}
 use Rattle.gaz_tables.specs.Tables.{AreFirstThere, HasTable, tree_named, tree_of}
