@@ -26,6 +26,7 @@ use Rattle.gaz_stored.proofs.Filled.{over_parts}
 use Rattle.gaz_stored.specs.Answering.{Settles}
 use Rattle.gaz_stored.specs.Attending.{ServesOpened, ServesOver}
 use Rattle.gaz_stored.specs.Keepers.{ServesWith}
+use Rattle.gaz_stored.specs.Meetings.{Meeting}
 use Rattle.gaz_stored.specs.Serving.{Serves}
 use Rattle.gaz_stored.specs.Using.{IsSame, Mirrored}
 use Rattle.gaz_stored.proofs.Alone.{runs_alone}
@@ -35,12 +36,12 @@ use Rattle.gaz_stored.proofs.Going.{begins_opened}
 use Rattle.gaz_stored.proofs.Parts.{seen_same}
 use Rattle.gaz_stored.proofs.Using.{uses}
 
-module _ {S R N : Type 0} {g : Ghosts S} (text : List ℕ) (register : RegisterValue) (most served : ℕ) where
+module _ {S R N : Type 0} {g : Ghosts S} (text : List ℕ) (register : RegisterValue) (most served : ℕ) (met : List Meeting) where
   -- what connections made of a hub over a mirror of a store that was settled, they made of the store
   pub serves_over : (first settled : Store S R g) (told : Result (Unit {0}) Refusal) (begun last : Hub (Mirrored g N text)) (after : Held S) → Settles text register first settled told → begun.register ≡ register
       → begun.waiters ≡ None → OnlyReads (seen_in text settled) (seen_in text begun.keeper.lower) → IsNotOpen (seen_mirrored begun.keeper).progress
       → (StandsForRun (door_of register) (seen_in text settled) → (seen_mirrored begun.keeper).unharmed → StandsForRun (door_of register) (seen_mirrored begun.keeper))
-      → Serves seen_mirrored most served begun last → last.keeper.lower.tables.conn ≡ after → ServesOver N text register most served first after
+      → Serves seen_mirrored most served begun last met → last.keeper.lower.tables.conn ≡ after → ServesOver N text register most served first after met
   serves_over first settled told begun last after settles same fresh reads idle mirrors serves back =
       let d = door_of register in
       let commands = serves.commands in
@@ -59,9 +60,9 @@ module _ {S R N : Type 0} {g : Ghosts S} (text : List ℕ) (register : RegisterV
         back = back;
       }
 
-module _ {S : Type 0} {g : Ghosts S} (register : RegisterValue) (most served : ℕ) where
+module _ {S : Type 0} {g : Ghosts S} (register : RegisterValue) (most served : ℕ) (met : List Meeting) where
   pub serves_opened : (first : Store S Brand g) (before after : Held S) → IsOpened (state g before) (state g first.tables.conn) (register_text register) (seen_in (register_text register) first)
-      → Tells g before first.tables.conn (Ok tt) (register_text register) → ServesOver Brand (register_text register) register most served first after → ServesOpened g register most served before after
+      → Tells g before first.tables.conn (Ok tt) (register_text register) → ServesOver Brand (register_text register) register most served first after met → ServesOpened g register most served before after met
   serves_opened first before after opened told is = record {
     first = first;
     told_settled = is.told_settled;
@@ -74,11 +75,11 @@ module _ {S : Type 0} {g : Ghosts S} (register : RegisterValue) (most served : �
   }
 
 -- the same of a keeper that is a store, whatever names its register
-pub serves_named : {S R N : Type 0} {g : Ghosts S} (text : List ℕ) (register : RegisterValue) (most served : ℕ) (given : Store S R g) (named left : Store S N g) (after : Held S) → IsSame given named
-    → ServesWith {K = Store S N g} (record { seen = seen_in text }) register most served named left → left.tables.conn ≡ after → ServesOver N text register most served given after
-serves_named {S} {R} {N} {g} text register most served given named left after same told back =
+pub serves_named : {S R N : Type 0} {g : Ghosts S} (text : List ℕ) (register : RegisterValue) (most served : ℕ) (given : Store S R g) (named left : Store S N g) (after : Held S) (met : List Meeting) → IsSame given named
+    → ServesWith {K = Store S N g} (record { seen = seen_in text }) register most served named left met → left.tables.conn ≡ after → ServesOver N text register most served given after met
+serves_named {S} {R} {N} {g} text register most served given named left after met same told back =
     let d = door_of register in
-    let over = serves_over text register most served named told.settled told.told_settled told.begun told.last after told.settles told.register_is told.fresh told.mirrors.reads told.mirrors.idle
+    let over = serves_over text register most served met named told.settled told.told_settled told.begun told.last after told.settles told.register_is told.fresh told.mirrors.reads told.mirrors.idle
     (λ stood fine. told.mirrors.stands (rests_bare text) (can_mirror text d told.settled stood) fine) told.serves (ap (λ (t : Store S N g). t.tables.conn) told.back ∙ back) in
     let seen = seen_same text given named same in
     record {

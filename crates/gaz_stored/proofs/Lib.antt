@@ -10,6 +10,7 @@ mod Calling
 mod Connecting
 mod Chaining
 mod Examples
+pub mod Meetings
 mod Serving
 pub mod ExtendsOpened
 pub mod Moving
@@ -19,3 +20,4 @@ mod Alike
 pub mod Filled
 mod Volumes
 mod FillingExamples
+mod MeetingExamples

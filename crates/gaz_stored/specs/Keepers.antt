@@ -1,6 +1,6 @@
 -- What a hub does over a keeper, whatever it is, from the one that is given to the one that is
 -- left.
-use Rattle.std.specs.Prelude.{◌≡◌, ℕ, [], ◌∷◌, None, Result}
+use Rattle.std.specs.Prelude.{◌≡◌, ℕ, List, [], ◌∷◌, None, Result}
 use Rattle.gaz_register.specs.Registers.{RegisterValue}
 use Rattle.gaz_keeper.specs.Keeper.{IsNotOpen, Seen}
 use Rattle.gaz_keeper.specs.declared.shelf.Shelf.{Ghosts}
@@ -21,6 +21,7 @@ use Rattle.gaz_commands.specs.declared.said.Said.{Said}
 use Rattle.gaz_exchange.specs.Conversing.{Conversation, Transfer}
 use Rattle.gaz_exchange.specs.declared.conversation.Served.{Served}
 use Rattle.gaz_exchange.specs.declared.conversation.Stopped.{Stopped}
+use Rattle.gaz_stored.specs.Meetings.{Meeting}
 use Rattle.gaz_stored.specs.Serving.{Serves}
 
 -- a keeper with all of it at hand or without
@@ -46,9 +47,10 @@ pub record ConversesWith {K : Type 0} (keeper : Ghosts K) (register : RegisterVa
       (seen_mirrored last) ended
   pub back : last.lower ≡ left
 
--- a hub of this register settled over it, and then held so many conversations at most over a mirror
+-- a hub of this register settled over it, and then served so many connections over a mirror; this
+-- came of them
 pub record ServesWith {K : Type 0} (keeper : Ghosts K) (register : RegisterValue)
-    (most served : ℕ) (first left : K) : Type 0 where
+    (most served : ℕ) (first left : K) (met : List Meeting) : Type 0 where
   pub settled : K
   pub told_settled : Result (Unit {0}) Refusal
   pub settles : Runs (door_of register) (keeper.seen first) (keeper.seen settled)
@@ -58,7 +60,7 @@ pub record ServesWith {K : Type 0} (keeper : Ghosts K) (register : RegisterValue
   pub register_is : begun.register ≡ register
   pub fresh : begun.waiters ≡ None
   pub mirrors : Mirrors keeper register settled begun.keeper
-  pub serves : Serves seen_mirrored most served begun last
+  pub serves : Serves seen_mirrored most served begun last met
   pub back : last.keeper.lower ≡ left
 
 -- a hub of this register over it was asked, and this was said

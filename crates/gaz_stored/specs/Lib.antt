@@ -4,6 +4,7 @@ pub mod Stopping
 pub mod Using
 pub mod Answering
 pub mod Examples
+pub mod Meetings
 pub mod Serving
 pub mod Asking
 pub mod Attending
@@ -14,3 +15,4 @@ pub mod GrownChains
 pub mod Reopening
 pub mod Filling
 pub mod FillingExamples
+pub mod MeetingExamples

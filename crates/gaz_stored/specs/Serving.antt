@@ -1,39 +1,70 @@
 -- What becomes of a hub while connections come and go.
-use Rattle.std.specs.Prelude.{◌≡◌, ◌≤◌, ◌<◌, ◌⊎◌, ℕ, List, [], ◌∷◌, length, Option, None, Result}
+use Rattle.std.specs.Prelude.{◌≡◌, ◌≤◌, ◌<◌, ◌+◌, ℕ, List, [], ◌∷◌, ◌++◌, Option, None}
+use Rattle.std.specs.Prelude.{Result, is_ok}
 use Rattle.gaz_keeper.specs.Keeper.{Seen}
 use Rattle.gaz_hub.specs.Hubs.{Runs, door_of}
 use Rattle.gaz_hub.specs.Seen.{hub_seen}
 use Rattle.gaz_hub.specs.Step.{Command, Response}
 use Rattle.gaz_hub.specs.declared.hub.Hub.{Hub}
 use Rattle.gaz_exchange.specs.Conversing.{Conversation, Transfer}
+use Rattle.gaz_exchange.specs.Exchanges.{commands_of, responses_of}
 use Rattle.gaz_exchange.specs.declared.conversation.Served.{Served}
 use Rattle.gaz_exchange.specs.declared.conversation.Stopped.{Stopped}
+use Rattle.gaz_stored.specs.Meetings.{Meeting, Missed, Came, Left}
 
--- it held a conversation, of so many requests at most
-pub record Talks {K : Type 0} (seen : K → Seen) (most : ℕ) (old new : Hub K) : Type 0 where
+-- who came, with what it said and was told, and who was left
+abbrev pub met_through : Transfer → Result Served Stopped → List Meeting
+met_through through ended =
+    Came through.had through.held ∷ Left through.left through.holds (is_ok ended) ∷ []
+
+-- a peer came, and the hub held a conversation with it, of so many requests at most
+pub record Talks {K : Type 0} (seen : K → Seen) (most : ℕ) (old new : Hub K) (met : List Meeting)
+    : Type 0 where
   pub through : Transfer
   pub ended : Result Served Stopped
   pub conversation : Conversation (door_of old.register) most through (hub_seen seen old)
       (hub_seen seen new) ended
   pub register : new.register ≡ old.register
+  pub met_is : met ≡ met_through through ended
 
--- one after another; behind each it was one of these
-abbrev pub InTurn : {K : Type 0} → (K → Seen) → ℕ → Hub K → List (Hub K) → Hub K → Type 0
-InTurn seen most old [] new = new ≡ old
-InTurn seen most old (next ∷ later) new = Talks seen most old next × InTurn seen most next later new
+-- none could be had, and it stayed as it was
+pub record Rests {K : Type 0} (old new : Hub K) (met : List Meeting) : Type 0 where
+  pub still : new ≡ old
+  pub met_is : met ≡ Missed ∷ []
 
--- it held a conversation, or stayed as it was
-abbrev pub TalksOrRests : {K : Type 0} → (K → Seen) → ℕ → Hub K → Hub K → Type 0
-TalksOrRests seen most old new = Talks seen most old new ⊎ (new ≡ old)
+-- one or the other, and what it was asked and said meanwhile
+pub data TalksOrRests {K : Type 0} (seen : K → Seen) (most : ℕ) (old new : Hub K)
+    (met : List Meeting) : Type 0 where
+  Talked : Talks seen most old new met → TalksOrRests seen most old new met
+  Rested : Rests old new met → TalksOrRests seen most old new met
 
--- it held so many conversations at most, one after another, which are a run of its steps
-pub record Serves {K : Type 0} (seen : K → Seen) (most connections : ℕ) (old new : Hub K)
-    : Type 0 where
-  pub behind : List (Hub K)
-  pub few : length behind ≤ connections
-  pub in_turn : InTurn seen most old behind new
+abbrev pub commands_at : {K : Type 0} {seen : K → Seen} {most : ℕ} {old new : Hub K}
+    {met : List Meeting} → TalksOrRests seen most old new met → List Command
+commands_at (Talked talk) = commands_of talk.conversation.exchanges
+commands_at (Rested rest) = []
+
+abbrev pub responses_at : {K : Type 0} {seen : K → Seen} {most : ℕ} {old new : Hub K}
+    {met : List Meeting} → TalksOrRests seen most old new met → List Response
+responses_at (Talked talk) = responses_of talk.conversation.exchanges
+responses_at (Rested rest) = []
+
+-- so many connections, one after another, led from one hub to another; this came of them, and this
+-- the hub was asked and said
+module _ {K : Type 0} (seen : K → Seen) (most : ℕ) (old : Hub K) where
+  pub data InTurn : ℕ → Hub K → List Meeting → List Command → List Response → Type 0 where
+    Nobody : InTurn 0 old [] [] []
+    Next : (served : ℕ) (mid new : Hub K) (met more : List Meeting) (commands : List Command)
+        (responses : List Response) → InTurn served mid met commands responses
+        → (turn : TalksOrRests seen most mid new more)
+        → InTurn (served + 1) new (met ++ more) (commands ++ commands_at turn)
+        (responses ++ responses_at turn)
+
+-- it served so many connections, one after another, which is a run of its steps; this came of them
+pub record Serves {K : Type 0} (seen : K → Seen) (most served : ℕ) (old new : Hub K)
+    (met : List Meeting) : Type 0 where
   pub commands : List Command
   pub responses : List Response
+  pub in_turn : InTurn seen most old served new met commands responses
   pub runs : Runs (door_of old.register) (hub_seen seen old) (hub_seen seen new) commands responses
 
 -- so many connections of those that were wanted were answered, where this is at hand at last: not

@@ -8,11 +8,13 @@ ghost use Rattle.gaz_hub.specs.declared.question.Question.TheVariants.{Settle};
 ghost use Rattle.gaz_exchange.specs.Conversing.{StopsByFault, transfer};
 ghost use Rattle.gaz_stored.specs.Asking.{asked};
 ghost use Rattle.gaz_stored.specs.Keepers.{AsksWith, ConversesWith, ServesWith};
+ghost use Rattle.gaz_stored.specs.Meetings.{WithPeers};
 ghost use Rattle.gaz_stored.specs.Serving.{EndsEarly};
 
 use crate::asking::ask_hub;
 use crate::connections::{MOST_REQUESTS, serve_on};
 use crate::mirroring::{ReadFrom, mirror};
+use crate::peers::Peers;
 use gaz_commands::Said;
 use gaz_exchange::{Served, Sink, Source, Stopped, converse};
 use gaz_hub::Hub;
@@ -22,8 +24,6 @@ use gaz_register::Register;
 use gaz_shelf::{MemShelf, Seed};
 use gaz_words::Call;
 use std::alloc::Global;
-use std::io::{Read, Write};
-use std::net::{OpenListener, OpenStream};
 
 /// Judges what is ready in a keeper, and whether that went well.
 pub(crate) fn settled<K: Inbox + Drop>(
@@ -67,26 +67,26 @@ pub(crate) fn converse_with<K: Listed + Drop, R: Source, W: Sink>(
     (keeper, at_hand, ended)
 }
 
-/// Answers connections over a keeper, once it is settled and all of it put at hand, where memory
-/// allows; it, what is at hand, and how many were answered are left.
-pub(crate) fn serve_with<L: OpenListener, K: Listed + Drop>(
+/// Answers peers over a keeper, once it is settled and all of it put at hand, where memory allows;
+/// it, what is at hand, and how many connections were answered are left.
+pub(crate) fn serve_with<P: Peers, K: Listed + Drop>(
     alloc: Global,
     seed: Seed,
     keeper: K,
     register: Register,
-    listener: &L,
+    peers: &mut P,
     connections: u64,
 ) -> (K, Option<MemShelf>, u64)
-where
-    L::Stream: Read + Write + OpenStream,
     requires { IsNotOpen (K.seen keeper).progress }
-    ensures serves { ServesWith K.Shelf register MOST_REQUESTS result.2 keeper result.0 }
+    ensures serves { WithPeers P.meets P.Reader.Source.failed P.Writer.Sink.failed
+        (ServesWith K.Shelf register MOST_REQUESTS result.2 keeper result.0)
+        peers.old peers.new }
     ensures many { EndsEarly connections result.2 result.1 }
 {
     let (register, keeper, _settled) = settled(alloc, register, keeper);
     let hub = Hub::new(alloc, register, keeper);
     let mut hub = mirror(alloc, seed, hub, ReadFrom::Memory);
-    let served = serve_on(alloc, listener, &mut hub, connections);
+    let served = serve_on(alloc, peers, &mut hub, connections);
     let (_register, mirror) = hub.into_parts();
     let (keeper, at_hand) = mirror.into_parts();
     (keeper, at_hand, served)

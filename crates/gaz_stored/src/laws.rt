@@ -4,10 +4,12 @@ ghost use Rattle.gaz_stored.specs.Examples.{WorkedExamples};
 ghost use Rattle.gaz_stored.specs.Filling.{VolumesStay};
 ghost use Rattle.gaz_stored.specs.FillingExamples.{WorkedFilling};
 ghost use Rattle.gaz_stored.specs.GrownChains.{GrownChainsAreOne};
+ghost use Rattle.gaz_stored.specs.MeetingExamples.{WorkedMeetings};
 ghost use Rattle.gaz_stored.specs.Migrating.{MigratedStands};
 ghost use Rattle.gaz_stored.specs.Reopening.{OpensAgain};
 ghost use Rattle.gaz_stored.specs.Stopping.{StopsAreSurvived};
 
+use gaz_keeper::Inbox;
 use sqlite::Alter;
 
 /// What the definitions come to on worked examples.
@@ -18,6 +20,11 @@ pub fn worked_examples()
 /// Which files came as volumes, and which keepers can be brought to hand, on worked examples.
 pub fn worked_filling()
     ensures { WorkedFilling }
+{}
+
+/// Which peers came, and that nobody serves who met none, on worked examples.
+pub fn worked_meetings<K: Inbox>()
+    ensures { WorkedMeetings K.seen }
 {}
 
 /// Where files came as volumes from 1 on, they do after any commands.

@@ -13,6 +13,7 @@ mod keepers;
 pub mod laws;
 mod migrating;
 mod mirroring;
+mod peers;
 
 pub use answering::{HandedBack, answer_new, answer_opened};
 pub use asking::{Asked, ask_opened};
@@ -22,3 +23,4 @@ pub use extending::{Extended, extend_opened};
 pub use joining::mirrored;
 pub use migrating::{Migrated, Migration, migrate_opened};
 pub use mirroring::ReadFrom;
+pub use peers::Peers;
