@@ -1,5 +1,5 @@
 -- What is said of calls over a store's files, and why no store was made, or there is no hub over the one that is there.
-use Rattle.std.proofs.Common.{◌≡◌, ◌≢◌, ◌≤◌, ◌↔◌, Ok, Err, Result, IsTrue, IfOk, IfErr, ℕ, [], inl, inr, refl, subst}
+use Rattle.std.proofs.Common.{◌≡◌, ◌≢◌, ◌≤◌, ◌↔◌, Ok, Err, Result, IsTrue, IfOk, IfErr, ℕ, List, [], inl, inr, refl, subst}
 use Rattle.std.specs.Prelude.{Option}
 use Rattle.std.specs.declared.marker.Brand.{Brand}
 use Rattle.sqlite.specs.Files.{file_state, over_files}
@@ -21,8 +21,10 @@ use Rattle.gaz_commands.specs.declared.said.Said.{Said}
 use Rattle.gaz_commands.specs.declared.said.Said.TheVariants as said
 use Rattle.gaz_stored.specs.Asking.{Asks}
 use Rattle.gaz_stored.specs.Attending.{Attends}
+use Rattle.gaz_stored.specs.Meetings.{Meeting, WithPeers}
 use Rattle.gaz_stored.specs.Serving.{EndsEarly}
 use Rattle.gaz_stored.specs.declared.attending.Unserved.{Unserved}
+use Rattle.gaz_stored.proofs.Meetings.{with_same}
 use Rattle.gazhub.specs.Filing.{AsksStore, FindsTables, MakesNone, MakesStore, OpensNone, ServesStore, asked_by, asked_in, told_by, told_in}
 use Rattle.gazhub.specs.Visits.{Closes, Connects, Visits}
 use Rattle.gazhub.proofs.Resting.{goes_on_none, goes_on_refused}
@@ -59,16 +61,20 @@ module _ {D : Type 0} (g : disk.Ghosts D) (files : Files D) (left : Option (File
     asks_store call (Ok answer) asks = record { conn = conn; after = back; asks = asks; visits = visits_asked call answer asks }
     asks_store call (Err refusal) asks = tt
 
-    visits_attended : (most : ℕ) (held : Result ℕ Unserved) (attends : Attends over_files register most conn back held)
-        → Visits g register (record { files = files; conn = conn; after = back; left = left; commands = asked_by g register most conn back held attends; responses = told_by g register most conn back held attends })
-    visits_attended most (Ok served) attends = record { connects = connects; goes_on = attends.uses.goes_on; closes = closes }
-    visits_attended most (Err why) attends = record { connects = connects; goes_on = attends.uses.goes_on; closes = closes }
+    visits_attended : (most : ℕ) (held : Result ℕ Unserved) (met : List Meeting) (attends : Attends over_files register most conn back held met)
+        → Visits g register (record { files = files; conn = conn; after = back; left = left; commands = asked_by g register most conn back held met attends; responses = told_by g register most conn back held met attends })
+    visits_attended most (Ok served) met attends = record { connects = connects; goes_on = attends.uses.goes_on; closes = closes }
+    visits_attended most (Err why) met attends = record { connects = connects; goes_on = attends.1.uses.goes_on; closes = closes }
 
     -- what connections came to
-    pub serves_store : (most : ℕ) (held : Result (Result ℕ Unserved) StoreRefusal) → IfOk held (Attends over_files register most conn back)
-        → IfOk held (ServesStore g files left register most)
-    serves_store most (Ok how) attends = record { conn = conn; after = back; attends = attends; visits = visits_attended most how attends }
-    serves_store most (Err refusal) attends = tt
+    pub serves_store : (most : ℕ) (how : Result ℕ Unserved) (met : List Meeting) → Attends over_files register most conn back how met → ServesStore g files left register most how met
+    serves_store most how met attends = record { conn = conn; after = back; attends = attends; visits = visits_attended most how met attends }
+
+    pub serves_peers : {P R W : Type 0} (meets : P → Meeting → P → Type 0) (read_failed : R → R → Type 0) (write_failed : W → W → Type 0) (old new : P) (most : ℕ) (held : Result (Result ℕ Unserved) StoreRefusal)
+        → IfOk held (λ how. WithPeers meets read_failed write_failed (Attends over_files register most conn back how) old new)
+        → IfOk held (λ how. WithPeers meets read_failed write_failed (ServesStore g files left register most how) old new)
+    serves_peers meets read_failed write_failed old new most (Ok how) attends = with_same meets read_failed write_failed _ _ old new (serves_store most how) attends
+    serves_peers meets read_failed write_failed old new most (Err refusal) attends = tt
 
 -- a store that was made
 pub makes_store : {D : Type 0} (g : disk.Ghosts D) (files : Files D) (left : Option (Files D)) (conn back : Held (FileStore D g)) (store : Store (FileStore D g) Brand over_files) (register : RegisterValue)

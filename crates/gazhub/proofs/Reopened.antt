@@ -1,5 +1,5 @@
 -- What the next opening of a store's files is told.
-use Rattle.std.proofs.Common.{◌≡◌, ◌∙◌, ℕ, Result, Ok, Err, ap, subst, sym}
+use Rattle.std.proofs.Common.{◌≡◌, ◌∙◌, ℕ, List, Result, Ok, Err, ap, subst, sym}
 use Rattle.sqlite.specs.Effect.{Database}
 use Rattle.sqlite.specs.Files.{file_state, over_files}
 use Rattle.sqlite.specs.Held.{Held}
@@ -23,6 +23,7 @@ use Rattle.gaz_store.specs.Seen.{IsUnharmed}
 use Rattle.gaz_stored.proofs.Reopening as reopening
 use Rattle.gaz_stored.specs.Asking.{Asks}
 use Rattle.gaz_stored.specs.Attending.{Attends}
+use Rattle.gaz_stored.specs.Meetings.{Meeting}
 use Rattle.gaz_stored.specs.Runs.{StandForRun}
 use Rattle.gaz_stored.specs.declared.attending.Unserved.{Unserved}
 use Rattle.gaz_commands.specs.declared.said.Said.{Said}
@@ -50,16 +51,16 @@ module _ {D : Type 0} (g : disk.Ghosts D) where
   asked_has register (Ok command) conn after answer asks stood fine = record { tables = (asks.uses.goes_on fine stood).stands.kept.tables; whose = asks.uses.whose fine stood }
   asked_has register (Err at_once) conn after answer asks stood fine = record { tables = (asks.1.uses.goes_on fine stood).stands.kept.tables; whose = asks.1.uses.whose fine stood }
 
-  served_has : (register : RegisterValue) (most : ℕ) (held : Result ℕ Unserved) (conn after : Held (FileStore D g)) → Attends over_files register most conn after held
+  served_has : (register : RegisterValue) (most : ℕ) (held : Result ℕ Unserved) (met : List Meeting) (conn after : Held (FileStore D g)) → Attends over_files register most conn after held met
       → StandForRun register (file_state conn).now → IsUnharmed (file_state after) → HasStore g register after
-  served_has register most (Ok served) conn after attends stood fine = record { tables = (attends.uses.goes_on fine stood).stands.kept.tables; whose = attends.uses.whose fine stood }
-  served_has register most (Err why) conn after attends stood fine = record { tables = (attends.uses.goes_on fine stood).stands.kept.tables; whose = attends.uses.whose fine stood }
+  served_has register most (Ok served) met conn after attends stood fine = record { tables = (attends.uses.goes_on fine stood).stands.kept.tables; whose = attends.uses.whose fine stood }
+  served_has register most (Err why) met conn after attends stood fine = record { tables = (attends.1.uses.goes_on fine stood).stands.kept.tables; whose = attends.1.uses.whose fine stood }
 
   pub next_opens : NextOpens g
   next_opens = record {
     made = λ files left register answer it room fine. record { tables = (it.founds.goes_on fine room).stands.kept.tables; whose = it.made.of_register fine room };
     asked = λ files left register call answer it stood fine. asked_has register call it.conn it.after answer it.asks stood fine;
-    served = λ files left register most held it stood fine. served_has register most held it.conn it.after it.attends stood fine;
+    served = λ files left register most held met it stood fine. served_has register most held met it.conn it.after it.attends stood fine;
     grown = λ files left register grown told it stood fine. record { tables = (it.extends.stays fine stood).stands.kept.tables; whose = it.extends.whose fine stood };
     opens = λ register old conn next files has fine closes connects clean.
         let same = sym (shown_again old conn files fine closes connects clean) in

@@ -1,17 +1,24 @@
 -- What comes of connections that are answered.
-use Rattle.std.proofs.Common.{◌≡◌, ◌≢◌, ◌+◌, ◌-◌, ◌≤◌, ℕ, zero, suc, false, Ok, Err, Result, IfOk, arith, refl, subst, sym}
+use Rattle.std.proofs.Common.{◌≡◌, ◌≢◌, ◌+◌, ◌-◌, ◌≤◌, ℕ, zero, suc, false, [], ◌∷◌, map, Ok, Err, Result, IfOk, IfErr, arith, refl, subst, sym}
+use Rattle.std.specs.Io.KnownBytes.{Keeps}
 use Rattle.std.specs.Prelude.{IfSome, List, Option, Some, None}
 use Rattle.sqlite_disk.specs.declared.Disk as disk
+use Rattle.sqlite_disk.specs.declared.Files.{Files}
 use Rattle.gaz_kept.specs.declared.refusal.StoreRefusal.{StoreRefusal}
+use Rattle.gaz_register.specs.Registers.{RegisterValue}
+use Rattle.gaz_stored.specs.Attending.{IsAnnounced}
+use Rattle.gaz_stored.specs.Meetings.{Meeting, WithPeers}
 use Rattle.gaz_stored.specs.declared.attending.Unserved.{Unserved}
 use Rattle.gaz_stored.specs.declared.attending.Unserved.TheVariants.{NoPort, Unwritten}
 use Rattle.gaz_words.specs.declared.command.Places.{Places}
 use Rattle.gazhub.specs.Endings.{is_silent}
-use Rattle.gazhub.specs.Serving.{AreLeft, AreSome, Begins, Fewer, NeverTold, NoMore, ServeComesTo, ServesOnce, ServesRest, Untold, Whole, said_of_serving}
-use Rattle.gazhub.specs.Sites.{Deed}
+use Rattle.gazhub.specs.Filing.{OpensNone, ServesStore}
+use Rattle.gazhub.specs.Serving.{AreLeft, AreSome, Begins, Fewer, NeverTold, NoMore, ServeComesTo, ServesIn, ServesOnce, ServesRest, Untold, Whole, said_of_serving}
+use Rattle.gazhub.specs.Sites.{Deed, Does, Listened, Met}
 use Rattle.gazhub.specs.declared.ending.Ending.{Ending}
 use Rattle.gazhub.specs.declared.ending.Ending.TheVariants.{Done, Failed, Lost, Memory, NoHub, NotDone, ReadFault, Usage, WriteFault}
 use Rattle.gazhub.specs.declared.files.NoHub.{NoHub as WhyNoHub}
+use Rattle.gazhub.proofs.Sites.{all_met, does_then}
 
 some_of : (connections : ℕ) (held : Result (Result ℕ Unserved) StoreRefusal) → IfOk held (λ served. IfOk served (AreSome connections))
     → IfOk (said_of_serving held) (λ told. IfSome told (AreSome connections))
@@ -19,6 +26,46 @@ some_of connections (Ok (Ok served)) many = many
 some_of connections (Ok (Err Unwritten)) many = tt
 some_of connections (Ok (Err NoPort)) many = tt
 some_of connections (Err refusal) many = tt
+
+-- a port was listened at, and then peers were answered or weren't
+pub serves_in : {S D R W : Type 0} (g : disk.Ghosts D) (deeds : S → Option (List (Deed D))) (meets : S → Meeting → S → Type 0) (tells : (old new : S) (met : Meeting) → meets old met new → Does (deeds old) (deeds new) (Met met ∷ []))
+    (read_failed : R → R → Type 0) (write_failed : W → W → Type 0) (port connections : ℕ) (register : RegisterValue) (files : Files D) (left : Option (Files D)) (before mid after : S) (bound : Option ℕ) (had has : Option (List ℕ))
+    (held : Result (Result ℕ Unserved) StoreRefusal) (told : Result (Option ℕ) WhyNoHub) → Does (deeds before) (deeds mid) (Listened port bound ∷ []) → IsAnnounced bound had has held
+    → IfOk held (λ how. WithPeers meets read_failed write_failed (ServesStore g files left register 1000 how) mid after) → IfErr held (λ _. after ≡ mid) → IfOk held (λ served. IfOk served (AreSome connections))
+    → IfErr held (OpensNone g files left register) → told ≡ said_of_serving held → ServesIn g port connections had has register files (deeds before) (deeds after) told
+serves_in g deeds meets tells read_failed write_failed port connections register files left before mid after bound had has (Ok how) told listened announced answers still some none is = record {
+  left = left;
+  held = Ok how;
+  bound = bound;
+  announced = announced;
+  met = answers.met;
+  does = does_then (deeds before) (deeds mid) (deeds after) (Listened port bound ∷ []) (map Met answers.met) listened (all_met deeds meets tells answers.met mid after answers.are_met);
+  serves = answers.then;
+  some = some;
+  none = tt;
+  nobody = tt;
+  told_is = is;
+}
+serves_in g deeds meets tells read_failed write_failed port connections register files left before mid after bound had has (Err why) told listened announced answers still some none is = record {
+  left = left;
+  held = Err why;
+  bound = bound;
+  announced = announced;
+  met = [];
+  does = subst (λ s. Does (deeds before) (deeds s) (Listened port bound ∷ [])) (sym still) listened;
+  serves = tt;
+  some = tt;
+  none = none;
+  nobody = refl;
+  told_is = is;
+}
+
+-- nothing is printed where there was no hub or no port
+pub silent_of : (bound : Option ℕ) (had has : Option (List ℕ)) (held : Result (Result ℕ Unserved) StoreRefusal) → IsAnnounced bound had has held → IfErr (said_of_serving held) (λ _. Keeps had has)
+silent_of bound had has (Ok (Ok served)) announced = tt
+silent_of bound had has (Ok (Err Unwritten)) announced = tt
+silent_of bound had has (Ok (Err NoPort)) announced = announced.1
+silent_of bound had has (Err refusal) announced = announced
 
 -- what is told of serving is of some of the connections
 pub are_some : (connections : ℕ) (held : Result (Result ℕ Unserved) StoreRefusal) (told : Result (Option ℕ) WhyNoHub) → told ≡ said_of_serving held → IfOk held (λ served. IfOk served (AreSome connections))
@@ -39,19 +86,21 @@ module _ {D : Type 0} (g : disk.Ghosts D) (places : Places) (port connections : 
 
   -- some more were
   pub fewer : (left served : ℕ) (told : Option ℕ) (between after : Option (List (Deed D))) → AreLeft g places port connections before left between
-      → ServesOnce g places port left between after (Ok told) → told ≡ Some served → AreLeft g places port connections before (left - served) after
-  fewer left served told between after left_are once e = Fewer left served (left - served) between after left_are (subst (λ told. ServesOnce g places port left between after (Ok told)) e once) refl
+      → ServesOnce g places port left None None between after (Ok told) → told ≡ Some served → AreLeft g places port connections before (left - served) after
+  fewer left served told between after left_are once e = Fewer left served (left - served) between after left_are (subst (λ told. ServesOnce g places port left None None between after (Ok told)) e once) refl
 
   pub untold : (left : ℕ) (told : Option ℕ) (between after : Option (List (Deed D))) → AreLeft g places port connections before left between
-      → ServesOnce g places port left between after (Ok told) → told ≡ None → ServesRest g places port connections before after WriteFault
-  untold left told between after left_are once e = Untold left between left_are (subst (λ told. ServesOnce g places port left between after (Ok told)) e once)
+      → ServesOnce g places port left None None between after (Ok told) → told ≡ None → ServesRest g places port connections before after WriteFault
+  untold left told between after left_are once e = Untold left between left_are (subst (λ told. ServesOnce g places port left None None between after (Ok told)) e once)
 
-  pub never_told : (told : Option ℕ) (after : Option (List (Deed D))) → ServesOnce g places port connections before after (Ok told) → told ≡ None → ServeComesTo g places port connections before after WriteFault
-  never_told told after once e = NeverTold (subst (λ told. ServesOnce g places port connections before after (Ok told)) e once)
+  module _ (had has : Option (List ℕ)) where
+    pub never_told : (told : Option ℕ) (after : Option (List (Deed D))) → ServesOnce g places port connections had has before after (Ok told) → told ≡ None
+        → ServeComesTo g places port connections had has before after WriteFault
+    never_told told after once e = NeverTold (subst (λ told. ServesOnce g places port connections had has before after (Ok told)) e once)
 
-  pub begins : (served : ℕ) (told : Option ℕ) (between after : Option (List (Deed D))) (ending : Ending) → ServesOnce g places port connections before between (Ok told) → told ≡ Some served
-      → ServesRest g places port (connections - served) between after ending → ServeComesTo g places port connections before after ending
-  begins served told between after ending once e rest = Begins served between ending (subst (λ told. ServesOnce g places port connections before between (Ok told)) e once) rest
+    pub begins : (served : ℕ) (told : Option ℕ) (between after : Option (List (Deed D))) (ending : Ending) → ServesOnce g places port connections had has before between (Ok told) → told ≡ Some served
+        → ServesRest g places port (connections - served) between after ending → ServeComesTo g places port connections had has before after ending
+    begins served told between after ending once e rest = Begins served between ending (subst (λ told. ServesOnce g places port connections had has before between (Ok told)) e once) rest
 
   -- something may have been printed
   pub speaks : (after : Option (List (Deed D))) (ending : Ending) → ServesRest g places port connections before after ending → is_silent ending ≡ false

@@ -1,11 +1,11 @@
 -- Worked examples on what is done at a site.
-use Rattle.std.proofs.Common.{List, ℕ, Ok, ap, arith, inl, inr, refl, subst, sym, true}
+use Rattle.std.proofs.Common.{List, ℕ, Ok, ap, arith, refl, subst, sym}
 use Rattle.std.specs.Prelude.{◌≤◌, Option, Some, None, [], ◌∷◌}
 use Rattle.sqlite_disk.specs.declared.Disk as disk
 use Rattle.gaz_register.specs.Registers.{RegisterValue}
 use Rattle.gaz_words.specs.declared.command.Places.{Places}
 use Rattle.gazhub.specs.Serving.{AreLeft, All, Fewer}
-use Rattle.gazhub.specs.Sites.{Deed, FindsRegister, IsRegisterOf, Listened, NoFiles, Opened, Read}
+use Rattle.gazhub.specs.Sites.{Deed, FindsRegister, IsRegisterOf, Listened, Met, NoFiles, Opened, Read}
 use Rattle.gazhub.specs.WorkedSites.{WorkedSites, nothing_done, read_in_vain}
 
 -- what the last deed read
@@ -14,7 +14,8 @@ bytes_in None = None
 bytes_in (Some []) = None
 bytes_in (Some (Read path most bytes ∷ deeds)) = bytes
 bytes_in (Some (Opened path purpose files ∷ deeds)) = None
-bytes_in (Some (Listened port is_open ∷ deeds)) = None
+bytes_in (Some (Listened port had ∷ deeds)) = None
+bytes_in (Some (Met met ∷ deeds)) = None
 
 module _ {D : Type 0} (g : disk.Ghosts D) where
   not_found : (path : List ℕ) (register : RegisterValue) → FindsRegister (nothing_done g) (read_in_vain g path) path (Ok register) → ⊥
@@ -37,12 +38,8 @@ module _ {D : Type 0} (g : disk.Ghosts D) where
     not_submitted = λ code volume path bytes e. absurd (cc);
     asks = λ code. refl;
     no_files = λ path purpose. NoFiles refl refl;
-    listens = λ port. inr (true, refl);
-    listens_still = λ port done. inl refl;
-    not_listened = λ port path it. elim it [
-      | inl e ↦ absurd (cc)
-      | inr e ↦ absurd (let same = e.1 in cc)
-    ];
+    meets = λ port said told. refl;
+    not_met = λ port e. absurd (cc);
     failed = λ fault. (refl, refl);
     not_done = λ fault it. absurd (let same = it.0 in cc);
     all_left = λ places port connections done. All;

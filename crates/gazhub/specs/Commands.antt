@@ -97,7 +97,8 @@ module _ {D : Type 0} (g : disk.Ghosts D) (text : List ℕ) (most : ℕ)
 
   -- connections are answered
   pub record EndsServing (places : Places) (serving : Serving) (ending : Ending) : Type 0 where
-    pub serves : ServeComesTo g places serving.port serving.connections before after ending
+    pub serves : ServeComesTo g places serving.port serving.connections through.held
+        through.holds before after ending
     pub silent : StaysSilent through ending
 
   -- how the program ends, by the command

@@ -18,6 +18,7 @@ use Rattle.gaz_hub.specs.Step.{Command, Pose, Replied, Response}
 use Rattle.gaz_hub.specs.declared.question.Question.TheVariants.{Settle}
 use Rattle.gaz_stored.specs.Asking.{Asks}
 use Rattle.gaz_stored.specs.Attending.{Attends}
+use Rattle.gaz_stored.specs.Meetings.{Meeting}
 use Rattle.gaz_stored.specs.declared.attending.Unserved.{Unserved}
 use Rattle.gaz_commands.specs.declared.printed.PrintedLine.TheVariants.{Ready}
 use Rattle.gaz_commands.specs.declared.said.Said.{Said}
@@ -39,18 +40,18 @@ module _ {D : Type 0} (g : disk.Ghosts D) where
 
   -- and where connections came to this
   abbrev pub asked_by : (register : RegisterValue) (most : ℕ)
-      (before after : Held (FileStore D g)) (held : Result ℕ Unserved)
-      → Attends over_files register most before after held → List Command
-  asked_by register most before after (Ok served) attends =
+      (before after : Held (FileStore D g)) (held : Result ℕ Unserved) (met : List Meeting)
+      → Attends over_files register most before after held met → List Command
+  asked_by register most before after (Ok served) met attends =
       Pose Settle ∷ attends.serves.commands
-  asked_by register most before after (Err why) attends = []
+  asked_by register most before after (Err why) met attends = []
 
   abbrev pub told_by : (register : RegisterValue) (most : ℕ)
-      (before after : Held (FileStore D g)) (held : Result ℕ Unserved)
-      → Attends over_files register most before after held → List Response
-  told_by register most before after (Ok served) attends =
+      (before after : Held (FileStore D g)) (held : Result ℕ Unserved) (met : List Meeting)
+      → Attends over_files register most before after held met → List Response
+  told_by register most before after (Ok served) met attends =
       Replied Settle attends.told_settled ∷ attends.serves.responses
-  told_by register most before after (Err why) attends = []
+  told_by register most before after (Err why) met attends = []
 
   -- Below, the files are those that are given, and those that are given back.
   module _ (files : Files D) (left : Option (Files D)) where
@@ -118,17 +119,18 @@ module _ {D : Type 0} (g : disk.Ghosts D) where
         responses = told_in register conn after answer call asks;
       })
 
-    -- it answered so many connections, or there was no port, or nobody was told of it
+    -- it answered so many connections, or there was no port, or nobody was told of it; this came of
+    -- them
     pub record ServesStore (register : RegisterValue) (most : ℕ) (held : Result ℕ Unserved)
-        : Type 0 where
+        (met : List Meeting) : Type 0 where
       pub conn : Held (FileStore D g)
       pub after : Held (FileStore D g)
-      pub attends : Attends over_files register most conn after held
+      pub attends : Attends over_files register most conn after held met
       pub visits : Visits g register (record {
         files = files;
         conn = conn;
         after = after;
         left = left;
-        commands = asked_by register most conn after held attends;
-        responses = told_by register most conn after held attends;
+        commands = asked_by register most conn after held met attends;
+        responses = told_by register most conn after held met attends;
       })

@@ -1,5 +1,5 @@
 -- What the next opening of a store's files is told.
-use Rattle.std.specs.Prelude.{ℕ, Option, Some, Result}
+use Rattle.std.specs.Prelude.{ℕ, List, Option, Some, Result}
 use Rattle.sqlite.specs.Files.{file_state, over_files}
 use Rattle.sqlite.specs.Held.{Held}
 use Rattle.sqlite.specs.State.{HasCleanDisk}
@@ -16,6 +16,7 @@ use Rattle.gaz_kept.specs.Opening.{IsOf}
 use Rattle.gaz_store.specs.Growing.{register_then}
 use Rattle.gaz_store.specs.Seen.{IsUnharmed}
 use Rattle.gaz_store.specs.declared.growing.ExtendFault.{ExtendFault}
+use Rattle.gaz_stored.specs.Meetings.{Meeting}
 use Rattle.gaz_stored.specs.Reopening.{OpensThen}
 use Rattle.gaz_stored.specs.Runs.{StandForRun}
 use Rattle.gaz_stored.specs.declared.attending.Unserved.{Unserved}
@@ -45,7 +46,8 @@ module _ {D : Type 0} (g : disk.Ghosts D) where
         → StandForRun register (file_state it.conn).now → IsUnharmed (file_state it.after)
         → HasStore register it.after
     pub served : (files : Files D) (left : Option (Files D)) (register : RegisterValue) (most : ℕ)
-        (held : Result ℕ Unserved) (it : ServesStore g files left register most held)
+        (held : Result ℕ Unserved) (met : List Meeting)
+        (it : ServesStore g files left register most held met)
         → StandForRun register (file_state it.conn).now → IsUnharmed (file_state it.after)
         → HasStore register it.after
     -- where its register was to grow

@@ -1,5 +1,6 @@
--- What a command does where it reaches outside: it reads files, opens a store's, listens at a port.
-use Rattle.std.specs.Prelude.{◌≡◌, ◌^◌, ◌-◌, ◌++◌, ℕ, suc, Bool, ⊤, List, [], ◌∷◌, Option, Some}
+-- What a command does where it reaches outside: it reads files, opens a store's, listens at a port
+-- and answers the peers that come.
+use Rattle.std.specs.Prelude.{◌≡◌, ◌^◌, ◌-◌, ◌++◌, ℕ, suc, ⊤, List, [], ◌∷◌, Option, Some}
 use Rattle.std.specs.Prelude.{None, Result, Ok, Err, option_map}
 use Rattle.std.specs.Global.{Vec}
 use Rattle.sqlite_disk.specs.declared.Files.{Files}
@@ -10,6 +11,7 @@ use Rattle.gaz_register.specs.Drafts.{OrMemory}
 use Rattle.gaz_register.specs.Reading.{register_of}
 use Rattle.gaz_register.specs.Registers.{RegisterValue}
 use Rattle.gaz_register.specs.declared.fault.RegFault.{RegFault}
+use Rattle.gaz_stored.specs.Meetings.{Meeting}
 use Rattle.gaz_words.specs.declared.command.Call.{Call}
 use Rattle.gaz_words.specs.declared.command.Call.TheVariants.{Submit}
 use Rattle.gazhub.specs.declared.files.NoHub.{NoHub}
@@ -17,11 +19,13 @@ use Rattle.gazhub.specs.declared.files.NoHub.TheVariants as none
 use Rattle.gazhub.specs.declared.purpose.Purpose.{Purpose}
 
 -- a deed: of the file at a path so many bytes at most were read; the store's files at a path were
--- opened for a purpose; a port was listened at. Each tells what came of it
+-- opened for a purpose; a port was listened at; this came of a connection. Each tells what came of
+-- it
 pub data Deed (D : Type 0) : Type 0 where
   Read : (path : List ℕ) (most : ℕ) (bytes : Option (List ℕ)) → Deed D
   Opened : (path : List ℕ) (purpose : Purpose) (files : Option (Files D)) → Deed D
-  Listened : (port : ℕ) (is_open : Bool) → Deed D
+  Listened : (port : ℕ) (had : Option ℕ) → Deed D
+  Met : (met : Meeting) → Deed D
 
 -- what was read, and the files that were opened
 abbrev pub bytes_of : Option (Vec ℕ) → Option (List ℕ)

@@ -1,5 +1,5 @@
 -- Worked examples on what is done at a site, and on how the program ends.
-use Rattle.std.specs.Prelude.{◌≤◌, [], ◌∷◌, ℕ, suc, true, List, Option, Some, None, Ok, Err}
+use Rattle.std.specs.Prelude.{◌≤◌, [], ◌∷◌, ℕ, suc, true, List, map, Option, Some, None, Ok, Err}
 use Rattle.std.specs.Borrow.{Bor}
 use Rattle.sqlite_disk.specs.declared.Disk as disk
 use Rattle.gaz_commands.specs.declared.said.CommandFault.{CommandFault}
@@ -7,12 +7,13 @@ use Rattle.gaz_commands.specs.declared.said.Said.TheVariants as said
 use Rattle.gaz_ids.specs.Limits.{most_bytes}
 use Rattle.gaz_kept.specs.declared.refusal.StoreRefusal.TheVariants.{Fault}
 use Rattle.gaz_register.specs.Registers.{RegisterValue}
+use Rattle.gaz_stored.specs.Meetings.{Missed, Came, Left}
 use Rattle.gaz_words.specs.declared.command.Call.TheVariants.{Status, Submit}
 use Rattle.gaz_words.specs.declared.command.Places.{Places}
 use Rattle.gazhub.specs.Commands.{IsExplained, IsTold}
-use Rattle.gazhub.specs.Serving.{AreLeft, Listens, ServesRest}
-use Rattle.gazhub.specs.Sites.{Deed, Does, FindsRegister, Listened, Opened, Read, ReadsFor, WithFiles}
-use Rattle.gazhub.specs.Sites.{whole}
+use Rattle.gazhub.specs.Serving.{AreLeft, ServesRest}
+use Rattle.gazhub.specs.Sites.{Deed, Does, FindsRegister, Listened, Met, Opened, Read, ReadsFor}
+use Rattle.gazhub.specs.Sites.{WithFiles, whole}
 use Rattle.gazhub.specs.declared.ending.Ending.TheVariants.{Done, Failed, NoHub, NotDone}
 use Rattle.gazhub.specs.declared.files.NoHub.{NoHub as WhyNoHub}
 use Rattle.gazhub.specs.declared.files.NoHub.TheVariants.{Store, Unreadable}
@@ -45,10 +46,14 @@ module _ {D : Type 0} (g : disk.Ghosts D) where
     pub no_files : (path : List ℕ) (purpose : Purpose)
         → WithFiles {A = Unit {0}} path purpose (λ files before after told. ⊥) nothing_done
         (Some (Opened path purpose None ∷ [])) (Err (Store Fault))
-    -- a port is listened at, or was before
-    pub listens : (port : ℕ) → Listens port nothing_done (Some (Listened port true ∷ []))
-    pub listens_still : (port : ℕ) (done : Option (List (Deed D))) → Listens port done done
-    pub not_listened : (port : ℕ) (path : List ℕ) → ¬ Listens port nothing_done (read_in_vain path)
+    -- a port is listened at, and a peer comes and is left; where nobody came, none was missed
+    pub meets : (port : ℕ) (said told : Option (List ℕ))
+        → Does nothing_done (Some (Listened port (Some port) ∷ Met (Came said (Some []))
+        ∷ Met (Left (Some []) told true) ∷ []))
+        (Listened port (Some port) ∷ map Met (Came said (Some [])
+        ∷ Left (Some []) told true ∷ []))
+    pub not_met : (port : ℕ) → ¬ Does nothing_done (Some (Listened port (Some port) ∷ []))
+        (Listened port (Some port) ∷ map Met (Missed ∷ []))
     -- a fault ends the program as one, and prints nothing
     pub failed : (fault : CommandFault) → IsTold (Some []) (Some []) (said.Failed fault) (Failed fault)
     pub not_done : (fault : CommandFault) → ¬ IsTold (Some []) (Some []) (said.Failed fault) Done

@@ -18,7 +18,6 @@ use gaz_words::{Places, Serving};
 use sqlite::{Files, Options};
 use std::alloc::Global;
 use std::io::{Write, sink};
-use std::net::TcpListener;
 
 // How many connections were answered, none where nobody could be told where they come; or why there
 // was no hub or no port for them.
@@ -40,7 +39,6 @@ fn serve_in<S: Site, W: Write>(
     alloc: Global,
     seed: Seed,
     serving: Serving,
-    listener: &mut Option<TcpListener>,
     register: Register,
     files: Files<S::Medium>,
     options: Options,
@@ -48,21 +46,21 @@ fn serve_in<S: Site, W: Write>(
 ) -> Result<Option<u64>, NoHub>
     requires log { IsTrue (S.Medium.Disk.is_usable files.log) }
     requires db { IsTrue (S.Medium.Disk.is_usable files.db) }
-    ensures served { ServesIn S.Medium.Disk serving.port serving.connections register files
+    ensures served { ServesIn S.Medium.Disk serving.port serving.connections
+        (W.contents w.old) (W.contents w.new) register files
         (S.deeds site.old) (S.deeds site.new) result }
     ensures silent { IfErr result (λ _. Keeps (W.contents w.old) (W.contents w.new)) }
     ensures some { IfOk result (λ told. IfSome told (AreSome serving.connections)) }
 {
-    if listener.is_none() {
-        *listener = site.listen(serving.port);
-    }
+    let port = site.listen(serving.port);
     let (_closed, held) = serve_store(
         alloc,
         files,
         options,
         seed,
         register,
-        listener.as_ref(),
+        port,
+        site,
         w,
         serving.connections,
     );
@@ -76,19 +74,16 @@ fn serve_once<S: Site, W: Write>(
     seed: Seed,
     places: Places<'_>,
     serving: Serving,
-    listener: &mut Option<TcpListener>,
     w: &mut W,
 ) -> Result<Option<u64>, NoHub>
     ensures served { ServesOnce S.Medium.Disk places.entry serving.port serving.connections
-        (S.deeds site.old) (S.deeds site.new) result }
+        (W.contents w.old) (W.contents w.new) (S.deeds site.old) (S.deeds site.new) result }
     ensures silent { IfErr result (λ _. Keeps (W.contents w.old) (W.contents w.new)) }
     ensures some { IfOk result (λ told. IfSome told (AreSome serving.connections)) }
 {
     let register = read_register(site, alloc, places.register)?;
     let (files, options) = open_files(site, places.store, Purpose::Use)?;
-    serve_in(
-        site, alloc, seed, serving, listener, register, files, options, w,
-    )
+    serve_in(site, alloc, seed, serving, register, files, options, w)
 }
 
 // Answers those that are left of the connections: what failed is opened again between two of them.
@@ -98,7 +93,6 @@ fn serve_rest<S: Site>(
     seed: Seed,
     places: Places<'_>,
     serving: Serving,
-    listener: &mut Option<TcpListener>,
 ) -> Ending
     ensures { ServesRest S.Medium.Disk places.entry serving.port serving.connections
         (S.deeds site.old) (S.deeds site.new) result }
@@ -112,7 +106,7 @@ fn serve_rest<S: Site>(
             port: serving.port,
             connections: left,
         };
-        match serve_once(site, alloc, seed, places, wanted, listener, &mut sink()) {
+        match serve_once(site, alloc, seed, places, wanted, &mut sink()) {
             Ok(Some(served)) => left -= served,
             Ok(None) => return Ending::WriteFault,
             Err(why) => return Ending::Lost(why),
@@ -133,17 +127,16 @@ pub fn serve<S: Site, W: Write>(
     w: &mut W,
 ) -> Ending
     ensures serves { ServeComesTo S.Medium.Disk places.entry serving.port serving.connections
-        (S.deeds site.old) (S.deeds site.new) result }
+        (W.contents w.old) (W.contents w.new) (S.deeds site.old) (S.deeds site.new) result }
     ensures silent { is_silent result ≡ true → Keeps (W.contents w.old) (W.contents w.new) }
 {
-    let mut listener = None;
-    match serve_once(site, alloc, seed, places, serving, &mut listener, w) {
+    match serve_once(site, alloc, seed, places, serving, w) {
         Ok(Some(served)) => {
             let left = Serving {
                 port: serving.port,
                 connections: serving.connections - served,
             };
-            serve_rest(site, alloc, seed, places, left, &mut listener)
+            serve_rest(site, alloc, seed, places, left)
         }
         Ok(None) => Ending::WriteFault,
         Err(why) => Ending::NoHub(why),

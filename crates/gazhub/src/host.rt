@@ -1,13 +1,16 @@
-//! The system's own files and ports.
-ghost use Rattle.std.specs.Prelude.{None};
+//! The system's own files, and a port of it.
+ghost use Rattle.std.specs.Prelude.{⊤, None};
 
+use crate::port::{accepted, part};
 use crate::purpose::Purpose;
 use crate::site::Site;
+use gaz_stored::Peers;
 use sqlite::{Files, Options, Unknown};
 use sqlite_std_file::{FileFrom, open};
+use std::alloc::Global;
 use std::fs;
-use std::io::{self, IsTerminal, Read};
-use std::net::{Ipv4Addr, TcpListener};
+use std::io::{self, BufWriter, IsTerminal, Read};
+use std::net::{Ipv4Addr, TcpListener, TcpStream};
 use std::random::RandomSource;
 
 /// The bytes of a page of a store's file.
@@ -32,11 +35,13 @@ fn pages_for(bytes: u64) -> usize {
 #[derive(Drop)]
 pub struct Host<'a> {
     rt: &'a HostRuntime,
+    // none where nothing is listened at
+    listener: Option<TcpListener>,
 }
 
 impl<'a> Host<'a> {
     pub fn of(rt: &'a HostRuntime) -> Host<'a> {
-        Host { rt }
+        Host { rt, listener: None }
     }
 
     // So many bytes at most of a file.
@@ -102,10 +107,32 @@ impl<'a> Host<'a> {
     }
 }
 
+// Who comes, and what they say and are told, no clause of std's says.
+impl Peers for Host<'_> {
+    type Reader = TcpStream;
+
+    type Writer = BufWriter<TcpStream>;
+
+    ghost meets = { λ _ _ _. ⊤ };
+
+    fn accept(&mut self, alloc: Global) -> Option<(TcpStream, BufWriter<TcpStream>)> {
+        accepted(alloc, self.listener.as_ref()?).ok()
+    }
+
+    fn leave(&mut self, reader: TcpStream, _writer: BufWriter<TcpStream>, is_whole: bool) {
+        let mut reader = reader;
+        if is_whole {
+            part(&mut reader);
+        }
+    }
+}
+
 impl Site for Host<'_> {
     type Medium = FileFrom<Unknown>;
 
     ghost deeds = { λ _. None };
+
+    ghost tells = { λ _ _ _ _. tt };
 
     fn read(&mut self, path: &str, most: u64) -> Option<Vec<u8>> {
         self.read_some(path, most).ok()
@@ -117,7 +144,11 @@ impl Site for Host<'_> {
         Some((files, options))
     }
 
-    fn listen(&mut self, port: u16) -> Option<TcpListener> {
-        TcpListener::bind(self.rt, (Ipv4Addr::LOCALHOST, port)).ok()
+    fn listen(&mut self, port: u16) -> Option<u16> {
+        if self.listener.is_none() {
+            self.listener = TcpListener::bind(self.rt, (Ipv4Addr::LOCALHOST, port)).ok();
+        }
+        let listener = self.listener.as_ref()?;
+        Some(listener.local_addr().ok()?.port())
     }
 }

@@ -12,6 +12,7 @@ mod laws;
 mod meaning;
 mod migrating;
 mod obeying;
+mod port;
 mod program;
 mod purpose;
 mod sample;

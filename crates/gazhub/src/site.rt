@@ -1,15 +1,16 @@
-//! What a command reaches outside: files at paths, and a port.
-ghost use Rattle.std.specs.Prelude.{[], ◌∷◌, IfSome, IsTrue, List, Option, is_some};
-ghost use Rattle.gazhub.specs.Sites.{Deed, Does, Listened, Opened, Read, bytes_of, files_of};
+//! What a command reaches outside: files at paths, and a port with the peers that come to it.
+ghost use Rattle.std.specs.Prelude.{[], ◌∷◌, IfSome, IsTrue, List, Option};
+ghost use Rattle.gaz_stored.specs.Meetings.{Meeting};
+ghost use Rattle.gazhub.specs.Sites.{Deed, Does, Listened, Met, Opened, Read, bytes_of, files_of};
 
 use crate::purpose::Purpose;
+use gaz_stored::Peers;
 use sqlite::{Files, Options};
 use sqlite_disk::Disk;
-use std::net::TcpListener;
 
-/// Where the files are that commands name. What was done there is told in its order, where it is
-/// known; of a system's files it isn't, since others change them too.
-pub trait Site {
+/// Where the files are that commands name, and where peers come. What was done there is told in its
+/// order, where it is known; of a system's files it isn't, since others change them too.
+pub trait Site: Peers {
     /// The disk on which a store's files are.
     type Medium: Disk + Drop;
 
@@ -30,9 +31,12 @@ pub trait Site {
         ensures opened { Does (deeds self.old) (deeds self.new)
             (Opened path.now purpose (files_of result) ∷ []) };
 
-    /// A listener at a port of 127.0.0.1, for 0 at one that the system chooses; none where it can't
-    /// be had.
-    fn listen(&mut self, port: u16) -> Option<TcpListener>
-        ensures { Does (deeds self.old) (deeds self.new)
-            (Listened port (is_some result) ∷ []) };
+    /// Listens at a port of 127.0.0.1, for 0 at one that the system chooses, unless it does so
+    /// already; the port, or none where it can't be had.
+    fn listen(&mut self, port: u16) -> Option<u16>
+        ensures { Does (deeds self.old) (deeds self.new) (Listened port result ∷ []) };
+
+    // What came of peers is among what was done.
+    ghost tells: { (old new : Self) (met : Meeting) → Self.Peers.meets old met new
+        → Does (Self.deeds old) (Self.deeds new) (Met met ∷ []) };
 }

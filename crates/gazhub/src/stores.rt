@@ -1,8 +1,8 @@
 //! Commands over a store's two files, whatever disk they are on.
 ghost use Rattle.std.specs.Prelude.{◌≡◌, ◌≤◌, false, IfErr, IfOk, IfSome, IsTrue, option_map};
-ghost use Rattle.std.specs.Io.KnownBytes.{Keeps};
 ghost use Rattle.gaz_stored.specs.Asking.{asked};
-ghost use Rattle.gaz_stored.specs.Attending.{is_told};
+ghost use Rattle.gaz_stored.specs.Attending.{IsAnnounced};
+ghost use Rattle.gaz_stored.specs.Meetings.{WithPeers};
 ghost use Rattle.gazhub.specs.Filing.{AsksStore, MakesNone, MakesStore, OpensNone, ServesStore};
 ghost use Rattle.gazhub.specs.Visits.{Closes, Connects};
 
@@ -10,15 +10,14 @@ use gaz_commands::{PrintedLine, Said};
 use gaz_ledger::Seed;
 use gaz_register::Register;
 use gaz_store::{Store, StoreRefusal};
-use gaz_stored::{Asked, Attended, MOST_REQUESTS, Unserved, ask_opened, serve_opened};
+use gaz_stored::{Asked, Attended, MOST_REQUESTS, Peers, Unserved, ask_opened, serve_opened};
 use gaz_words::Call;
 use sqlite::{Connection, FileStore, Files, Options};
 use sqlite_disk::Disk;
 use std::alloc::Global;
-use std::io::{Read, Write};
+use std::io::Write;
 use std::marker::Brand;
 use std::mem::forget;
-use std::net::{OpenListener, OpenStream};
 
 /// A connection to the database in the files, where one can be had.
 pub(crate) fn connect<D: Disk + Drop>(
@@ -111,32 +110,34 @@ pub fn ask_store<D: Disk + Drop>(
     (left, said)
 }
 
-/// Answers at most so many connections of a listener at a hub of the register over the store in the
-/// files, which are given back where they can be closed, and says first where they come. Gives how
-/// many: not all of them where something failed, but one at least. Why there is no hub, and in
-/// which order, is said of `serve_opened`.
-pub fn serve_store<D: Disk + Drop, L: OpenListener, W: Write>(
+/// Answers at most so many peers at a hub of the register over the store in the files, which are
+/// given back where they can be closed, and says first to which port they come. Gives how many: not all of
+/// them where something failed, but one at least. Why there is no hub, and in which order, is said
+/// of `serve_opened`.
+pub fn serve_store<D: Disk + Drop, P: Peers, W: Write>(
     alloc: Global,
     files: Files<D>,
     options: Options,
     seed: Seed,
     register: Register,
-    listener: Option<&L>,
+    port: Option<u16>,
+    peers: &mut P,
     w: &mut W,
     connections: u64,
 ) -> (
     Option<Files<D>>,
     Result<Result<u64, Unserved>, StoreRefusal>,
 )
-where
-    L::Stream: Read + Write + OpenStream,
     requires log { IsTrue (D.Disk.is_usable files.log) }
     requires db { IsTrue (D.Disk.is_usable files.db) }
-    ensures served { IfOk result.1 (ServesStore D.Disk files result.0 register MOST_REQUESTS) }
+    ensures served { IfOk result.1 (λ held.
+        WithPeers P.meets P.Reader.Source.failed P.Writer.Sink.failed
+        (ServesStore D.Disk files result.0 register MOST_REQUESTS held) peers.old peers.new) }
+    ensures nobody { IfErr result.1 (λ _. peers.new ≡ peers.old) }
     ensures many { IfOk result.1 (λ served.
         IfOk served (λ n. (n ≤ connections) × (1 ≤ connections → 1 ≤ n))) }
     ensures none { IfErr result.1 (OpensNone D.Disk files result.0 register) }
-    ensures silent { is_told result.1 ≡ false → Keeps (W.contents w.old) (W.contents w.new) }
+    ensures announced { IsAnnounced port (W.contents w.old) (W.contents w.new) result.1 }
 {
     let Some(conn) = connect(alloc, files, options) else {
         return (None, Err(StoreRefusal::Fault));
@@ -145,7 +146,7 @@ where
         conn,
         at_hand,
         held,
-    } = serve_opened(alloc, seed, conn, register, listener, w, connections);
+    } = serve_opened(alloc, seed, conn, register, port, peers, w, connections);
     // The program ends, and the system takes back at once what would take longer to free piece by
     // piece.
     forget(at_hand);

@@ -10,7 +10,7 @@ use gaz_ledger::Seed;
 use gaz_register::Register;
 use std::fs;
 use std::io::{Read, Write};
-use std::net::{Ipv4Addr, Shutdown, TcpListener, TcpStream};
+use std::net::{Ipv4Addr, Shutdown, TcpStream};
 use std::test::Fail;
 
 /// Change files, at their paths.
@@ -122,11 +122,9 @@ fn commands_are_done(rt: HostRuntime) -> Result<(), Fail> {
     Ok(())
 }
 
-// Answers one connection of a listener over the store, and whether that was done.
-fn serve_one(rt: &HostRuntime, listener: &TcpListener) -> Result<bool, Fail> {
-    let (files, options) = Host::of(rt)
-        .open("second.db", Purpose::Use)
-        .ok_or("no files")?;
+// Answers one peer over the store, and whether that was done.
+fn serve_one(rt: &HostRuntime, port: u16, site: &mut Host<'_>) -> Result<bool, Fail> {
+    let (files, options) = site.open("second.db", Purpose::Use).ok_or("no files")?;
     let register = Register::read(rt.alloc(), SAMPLE.as_bytes())?;
     let mut w = Vec::new(rt.alloc());
     let (_closed, held) = serve_store(
@@ -135,24 +133,26 @@ fn serve_one(rt: &HostRuntime, listener: &TcpListener) -> Result<bool, Fail> {
         options,
         Seed::of(1),
         register,
-        Some(listener),
+        Some(port),
+        site,
         &mut w,
         1,
     );
     Ok(matches!(held, Ok(Ok(1))))
 }
 
-// A client and the hub that it asks, in one thread: the connection waits in the listener until it
-// is answered.
+// A client and the hub that it asks, in one thread: the connection waits at the port until it is
+// answered.
 #[test]
 fn a_connection_is_answered(rt: HostRuntime) -> Result<(), Fail> {
     fs::write(&rt, "second.toml", SAMPLE)?;
     let is_made = does(&rt, SECOND, "init", 0, "ready\n")?;
-    let listener = TcpListener::bind(&rt, (Ipv4Addr::LOCALHOST, 0))?;
-    let mut client = TcpStream::connect(&rt, listener.local_addr()?)?;
+    let mut site = Host::of(&rt);
+    let port = site.listen(0).ok_or("no port")?;
+    let mut client = TcpStream::connect(&rt, (Ipv4Addr::LOCALHOST, port))?;
     client.write_all(POST.as_bytes())?;
     client.shutdown(Shutdown::Write)?;
-    let is_served = serve_one(&rt, &listener)?;
+    let is_served = serve_one(&rt, port, &mut site)?;
     let mut reply = Vec::new(rt.alloc());
     client.read_to_end(&mut reply)?;
     let is_so = is_made && is_served && reply.as_slice() == APPLIED.as_bytes();
