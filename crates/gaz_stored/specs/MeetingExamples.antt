@@ -24,6 +24,6 @@ pub record WorkedMeetings {K : Type 0} (seen : K → Seen) : Type 0 where
   pub missed : came {R = List ℕ} {W = List ℕ} Some Some None ≡ Missed
   pub whole : AreWhole one_peer
   pub broken : ¬ AreWhole (Missed ∷ Left (Some []) (Some []) false ∷ [])
-  -- who served connections met as many peers, or missed them
+  -- of each connection that was served something came
   pub fewest : (most served : ℕ) (old new : Hub K) (met : List Meeting)
       → Serves seen most served old new met → served ≤ length met

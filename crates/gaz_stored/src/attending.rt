@@ -81,9 +81,9 @@ fn serve_over<S: Alter + Drop, N: OfRegister, P: Peers>(
 /// Takes the database behind a connection outside a transaction as the store of a register, says by
 /// the writer to which port peers come, as `listening 127.0.0.1:8080`, settles the store, puts all
 /// of it at hand, where memory allows, and answers at most so many peers, one after the other, of
-/// each at most 1,000 requests. One that can't be had counts as one. It ends early behind one where nothing
-/// is at hand any more, since something failed: who opens the store again answers those that are
-/// left. Who picks keys is not to foresee the seed.
+/// each at most 1,000 requests. One that can't be had counts as one. It ends early behind one where
+/// nothing is at hand any more, since something failed: who opens the store again answers those
+/// that are left. Who picks keys is not to foresee the seed.
 ///
 /// Whatever the peers do, the hub makes a run of its steps: what was received stays received. Where
 /// it is known what they say and are told, that is what the hub was asked and answered.

@@ -111,9 +111,9 @@ pub fn ask_store<D: Disk + Drop>(
 }
 
 /// Answers at most so many peers at a hub of the register over the store in the files, which are
-/// given back where they can be closed, and says first to which port they come. Gives how many: not all of
-/// them where something failed, but one at least. Why there is no hub, and in which order, is said
-/// of `serve_opened`.
+/// given back where they can be closed, and says first to which port they come. Gives how many: not
+/// all of them where something failed, but one at least. Why there is no hub, and in which order,
+/// is said of `serve_opened`.
 pub fn serve_store<D: Disk + Drop, P: Peers, W: Write>(
     alloc: Global,
     files: Files<D>,
