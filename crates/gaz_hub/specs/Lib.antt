@@ -37,4 +37,3 @@ pub mod WorkedWaiting
 pub mod WorkedGrowth
 pub mod WorkedStops
 pub mod WorkedFound
-pub mod InTurn

@@ -1,1 +1,4 @@
 pub mod Words
+pub mod Grammar
+pub mod Meaning
+pub mod WorkedWords

@@ -1,4 +1,8 @@
-ghost use Rattle.std.specs.Prelude.{◌≡◌, map, string_bytes};
+ghost use Rattle.std.specs.Prelude.{◌≡◌, [], ◌∷◌, codes, map, string_bytes};
+ghost use Rattle.clap.specs.Words.{found_of, rows_of};
+ghost use Rattle.gaz_words.specs.Grammar.{most_connections, most_port};
+ghost use Rattle.gaz_words.specs.Meaning.{AreAt, HasNumber, HaveWords, IsAt, IsCall, IsComplete};
+ghost use Rattle.gaz_words.specs.Meaning.{IsNamed, IsNumberAt, Means};
 ghost use Rattle.gaz_words.specs.Words as spec;
 
 use crate::grammar::grammar;
@@ -66,19 +70,32 @@ pub enum Command<'a> {
     Migrate(Places<'a>),
 }
 
-// The word that was written for an argument. `clap` asks for each, so that none is missing.
-fn word<'a>(given: &ArgMatches<'a>, name: &str) -> &'a str {
-    given.get_str(name).unwrap_or("")
+// The word that was written for an argument.
+fn word<'a>(given: &ArgMatches<'a>, name: &str) -> &'a str
+    requires { HaveWords (rows_of (found_of given.now)) (name.now ∷ []) }
+    ensures { IsAt (rows_of (found_of given.now)) name.now result.now }
+{
+    match given.get_str(name) {
+        Some(word) => word,
+        None => unreachable!(),
+    }
 }
 
-fn places_of<'a>(given: &ArgMatches<'a>) -> Places<'a> {
+fn places_of<'a>(given: &ArgMatches<'a>) -> Places<'a>
+    requires { HaveWords (rows_of (found_of given.now)) (codes "store" ∷ codes "register" ∷ []) }
+    ensures { AreAt (rows_of (found_of given.now)) result }
+{
     Places {
         store: word(given, "store"),
         register: word(given, "register"),
     }
 }
 
-fn submitting<'a>(given: &ArgMatches<'a>) -> Call<'a> {
+fn submitting<'a>(given: &ArgMatches<'a>) -> Call<'a>
+    requires { HaveWords (rows_of (found_of given.now))
+        (codes "CODE" ∷ codes "VOLUME" ∷ codes "FILE" ∷ []) }
+    ensures { IsCall (codes "submit") (rows_of (found_of given.now)) result }
+{
     Call::Submit {
         code: word(given, "CODE"),
         volume: word(given, "VOLUME"),
@@ -86,44 +103,64 @@ fn submitting<'a>(given: &ArgMatches<'a>) -> Call<'a> {
     }
 }
 
-fn extracting<'a>(given: &ArgMatches<'a>) -> Call<'a> {
+fn extracting<'a>(given: &ArgMatches<'a>) -> Call<'a>
+    requires { HaveWords (rows_of (found_of given.now)) (codes "CODE" ∷ codes "VOLUME" ∷ []) }
+    ensures { IsCall (codes "extract") (rows_of (found_of given.now)) result }
+{
     Call::Extract {
         code: word(given, "CODE"),
         volume: word(given, "VOLUME"),
     }
 }
 
-// Where connections are answered. `clap` takes no other numbers.
-fn serving_at(given: &ArgMatches<'_>) -> Serving {
-    Serving {
-        port: given.get_one::<u16>("port").unwrap_or(0),
-        connections: given.get_one::<u64>("connections").unwrap_or(0),
+fn port_in(given: &ArgMatches<'_>) -> u16
+    requires { HasNumber (rows_of (found_of given.now)) (codes "port") most_port }
+    ensures { IsNumberAt (rows_of (found_of given.now)) (codes "port") result }
+{
+    match given.get_one::<u16>("port") {
+        Some(port) => port,
+        None => unreachable!(),
+    }
+}
+
+fn connections_in(given: &ArgMatches<'_>) -> u64
+    requires { HasNumber (rows_of (found_of given.now)) (codes "connections") most_connections }
+    ensures { IsNumberAt (rows_of (found_of given.now)) (codes "connections") result }
+{
+    match given.get_one::<u64>("connections") {
+        Some(connections) => connections,
+        None => unreachable!(),
     }
 }
 
 // The command of this name, of the words behind it.
-fn named<'a>(name: &str, given: &ArgMatches<'a>) -> Command<'a> {
-    let places = places_of(given);
+fn named<'a>(name: &str, given: &ArgMatches<'a>) -> Command<'a>
+    requires { IsComplete name.now (rows_of (found_of given.now)) }
+    ensures { IsNamed name.now (rows_of (found_of given.now)) result }
+{
     match name {
-        "init" => Command::Init(places),
-        "submit" => Command::Ask(places, submitting(given)),
-        "status" => Command::Ask(
-            places,
-            Call::Status {
-                code: word(given, "CODE"),
-            },
-        ),
-        "line" => Command::Ask(
-            places,
-            Call::Line {
-                uprn: word(given, "UPRN"),
-            },
-        ),
-        "extract" => Command::Ask(places, extracting(given)),
-        "serve" => Command::Serve(places, serving_at(given)),
-        "extend" => Command::Extend(places, word(given, "grown")),
-        "migrate" => Command::Migrate(places),
-        _ => Command::Play,
+        "play" => Command::Play,
+        "init" => Command::Init(places_of(given)),
+        "submit" => Command::Ask(places_of(given), submitting(given)),
+        "status" => {
+            let code = word(given, "CODE");
+            Command::Ask(places_of(given), Call::Status { code })
+        }
+        "line" => {
+            let uprn = word(given, "UPRN");
+            Command::Ask(places_of(given), Call::Line { uprn })
+        }
+        "extract" => Command::Ask(places_of(given), extracting(given)),
+        "serve" => {
+            let serving = Serving {
+                port: port_in(given),
+                connections: connections_in(given),
+            };
+            Command::Serve(places_of(given), serving)
+        }
+        "extend" => Command::Extend(places_of(given), word(given, "grown")),
+        "migrate" => Command::Migrate(places_of(given)),
+        _ => unreachable!(),
     }
 }
 
@@ -139,12 +176,14 @@ pub fn asks_play(words: &[String]) -> bool
     }
 }
 
-/// What the words behind the program's name ask for; a conversation where there are none.
+/// What the words behind the program's name ask for; a conversation where they name no command.
 ///
 /// An error is a fault of usage, or help or the version that was asked for: its `Display` is the
-/// text for the user, and `exit_code` the exit status. Which word goes to which argument is what
-/// `clap` gives: that is tested, and not proved.
-pub fn read<'a>(alloc: Global, words: &'a [String]) -> Result<Command<'a>, Error> {
+/// text for the user, and `exit_code` the exit status. Which word goes to which argument, and which
+/// kind of error comes, is what `clap` says of the commands in `specs/Grammar.antt`.
+pub fn read<'a>(alloc: Global, words: &'a [String]) -> Result<Command<'a>, Error>
+    ensures { Means (map string_bytes words.now) result }
+{
     let given = grammar(alloc)?.try_get_matches_from(words)?;
     match given.subcommand() {
         Some((name, given)) => Ok(named(name, given)),

@@ -3,5 +3,6 @@
 
 mod command;
 mod grammar;
+pub mod laws;
 
 pub use command::{Call, Command, Places, Serving, asks_play, read};
