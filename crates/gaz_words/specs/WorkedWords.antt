@@ -6,7 +6,8 @@ use Rattle.clap.specs.declared.error.kind.ErrorKind.TheVariants as kind
 use Rattle.gaz_words.specs.Grammar.{gazhub}
 use Rattle.gaz_words.specs.Meaning.{Means}
 use Rattle.gaz_words.specs.declared.command.Call.TheVariants.{Line, Submit}
-use Rattle.gaz_words.specs.declared.command.Command.TheVariants.{Ask, Play, Serve}
+use Rattle.gaz_words.specs.declared.command.Command.{Command}
+use Rattle.gaz_words.specs.declared.command.Command.TheVariants.{Ask, Init, Play, Serve}
 use Rattle.gaz_words.specs.declared.command.Places.{Places}
 
 -- words for a store and its register, which come first or last, apart or joined
@@ -15,6 +16,9 @@ at_places = codes "--store" ∷ codes "hub.db" ∷ codes "--register" ∷ codes 
 
 abbrev pub joined_places : List Text
 joined_places = codes "--register=hub.toml" ∷ codes "--store=hub.db" ∷ []
+
+abbrev pub making : List Text
+making = codes "init" ∷ at_places
 
 abbrev pub submitting : List Text
 submitting = codes "submit"
@@ -29,15 +33,21 @@ abbrev pub ArePlaces : Places → Type 0
 ArePlaces places =
     (places.store.now ≡ codes "hub.db") × (places.register.now ≡ codes "hub.toml")
 
+-- a store is made there
+abbrev pub IsMade : Command → Type 0
+IsMade command = (places : Places) × (command ≡ Init places) × ArePlaces places
+
 pub record WorkedWords : Type 0 where
+  -- words in which no fault is found mean one command, and no other
+  pub fine : fault_of gazhub making ≡ []
+  pub makes : (places : Places) → ArePlaces places → Means making (Ok (Init places))
+  pub nothing_else : (command : Command) → Means making (Ok command) → IsMade command
   -- each word of a submission goes to its own argument
   pub submits : (places : Places) (code volume file : Bor Text) → ArePlaces places
       → code.now ≡ codes "1001" → volume.now ≡ codes "2" → file.now ≡ codes "names.csv"
       → Means submitting (Ok (Ask places (Submit code volume file)))
   pub not_swapped : (places : Places) (code volume file : Bor Text)
       → code.now ≡ codes "2" → ¬ Means submitting (Ok (Ask places (Submit code volume file)))
-  pub no_question : (places : Places) (uprn : Bor Text)
-      → ¬ Means submitting (Ok (Ask places (Line uprn)))
   -- a path may stand before or behind what has its place, and be joined to its word by `=`
   pub behind : (places : Places) (uprn : Bor Text) → ArePlaces places → uprn.now ≡ codes "42"
       → Means (codes "line" ∷ codes "42" ∷ joined_places) (Ok (Ask places (Line uprn)))

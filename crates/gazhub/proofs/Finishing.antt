@@ -2,6 +2,7 @@
 use Rattle.std.proofs.Common.{◌≡◌, ℕ, List, Result, true, refl}
 use Rattle.std.specs.Prelude.{Option, Some, None}
 use Rattle.std.specs.Io.KnownBytes.{Keeps}
+use Rattle.clap.specs.declared.error.Error.{Error}
 use Rattle.sqlite_disk.specs.declared.Disk as disk
 use Rattle.gaz_commands.specs.declared.said.Said.{Said}
 use Rattle.gaz_exchange.specs.Conversing.{Transfer}
@@ -19,6 +20,6 @@ pub finishes : (Works : Result Said NoHub → Type 0) (through : Transfer) (told
     → (is_silent ending ≡ true → Keeps through.held through.holds) → Finishes Works through ending
 finishes Works through told ending works finished read printed = record { told = told; works = works; finished = finished; silent = record { read = read; printed = printed } }
 
-pub explains : {D : Type 0} (g : disk.Ghosts D) (text : List ℕ) (most : ℕ) (before : Option (List (Deed D))) (through : Transfer) (ending : Ending) → IsExplained ending → Keeps through.had through.left
-    → (is_silent ending ≡ true → Keeps through.held through.holds) → Explains g text most before before through ending
-explains g text most before through ending explained read printed = record { explained = explained; silent = record { read = read; printed = printed }; still = refl }
+pub explains : {D : Type 0} (g : disk.Ghosts D) (text : List ℕ) (most : ℕ) (before : Option (List (Deed D))) (through : Transfer) (error : Error) (ending : Ending) → IsExplained error.kind ending → Keeps through.had through.left
+    → (is_silent ending ≡ true → Keeps through.held through.holds) → Explains g text most before before through error ending
+explains g text most before through error ending explained read printed = record { explained = explained; silent = record { read = read; printed = printed }; still = refl }

@@ -13,3 +13,4 @@ mod GrownCalls
 mod WorkedJoined
 mod WorkedSites
 mod Reopened
+pub mod WorkedEndings

@@ -45,5 +45,8 @@ module _ {D : Type 0} (g : disk.Ghosts D) where
     all_left = λ places port connections done. All;
     none_more = none_more;
     lost = λ places port connections after why it. elim it [ ];
-    not_explained = λ it. it;
+    usage = refl;
+    not_done_well = λ e. absurd (cc);
+    shown = tt;
+    not_usage = λ it. it;
   }

@@ -3,6 +3,8 @@ use Rattle.std.specs.Prelude.{◌≡◌, ℕ, zero, suc, Bool, true, false, List
 use Rattle.std.specs.Prelude.{Result, Ok, Err}
 use Rattle.std.specs.Io.KnownBytes.{Appends, Keeps}
 use Rattle.clap.specs.declared.error.Error.{Error}
+use Rattle.clap.specs.declared.error.kind.ErrorKind.{ErrorKind}
+use Rattle.clap.specs.declared.error.kind.ErrorKind.TheVariants as kind
 use Rattle.sqlite_disk.specs.declared.Disk as disk
 use Rattle.gaz_commands.specs.Saying.{text_of}
 use Rattle.gaz_commands.specs.Saying as saying
@@ -13,6 +15,7 @@ use Rattle.gaz_exchange.specs.Sending.{IsPut}
 use Rattle.gaz_exchange.specs.declared.conversation.Served.{Served}
 use Rattle.gaz_exchange.specs.declared.supply.Cause.{Cause}
 use Rattle.gaz_exchange.specs.declared.supply.Cause.TheVariants as cause
+use Rattle.gaz_words.specs.Meaning.{Means}
 use Rattle.gaz_words.specs.Words.{asks_play}
 use Rattle.gaz_words.specs.declared.command.Command.{Command}
 use Rattle.gaz_words.specs.declared.command.Places.{Places}
@@ -78,13 +81,18 @@ pub record Finishes (Works : Result Said WhyNoHub → Type 0) (through : Transfe
   pub finished : IsFinished through.held through.holds told ending
   pub silent : StaysSilent through ending
 
--- how the program ends where help was asked for, or something is wrong with the words
-abbrev pub IsExplained : Ending → Type 0
-IsExplained Done = Unit {0}
-IsExplained Usage = Unit {0}
-IsExplained Memory = Unit {0}
-IsExplained WriteFault = Unit {0}
-IsExplained _ = ⊥
+-- help, or the version, was printed, unless the output failed
+abbrev pub IsShown : Ending → Type 0
+IsShown Done = Unit {0}
+IsShown WriteFault = Unit {0}
+IsShown _ = ⊥
+
+-- how the program ends where the words mean no command, by the kind of what `clap` tells of them
+abbrev pub IsExplained : ErrorKind → Ending → Type 0
+IsExplained kind.OutOfMemory ending = ending ≡ Memory
+IsExplained kind.DisplayHelp ending = IsShown ending
+IsExplained kind.DisplayVersion ending = IsShown ending
+IsExplained _ ending = ending ≡ Usage
 
 -- Below, g is what is seen of a disk, on which the store at a path is; before and after are what
 -- was done at a site by then, where that is known; and a conversation is held at a hub of the
@@ -112,30 +120,29 @@ module _ {D : Type 0} (g : disk.Ghosts D) (text : List ℕ) (most : ℕ)
   EndsAt (Migrate places) ending = Finishes (MigrateComesTo g places before after) through ending
 
   -- help is printed, or what is wrong with the words is told, and nothing is done
-  pub record Explains (ending : Ending) : Type 0 where
-    pub explained : IsExplained ending
+  pub record Explains (error : Error) (ending : Ending) : Type 0 where
+    pub explained : IsExplained error.kind ending
     pub silent : StaysSilent through ending
     pub still : after ≡ before
 
   -- what the words mean is done, or explained
-  pub data EndsByMeaning (Means : Result Command Error → Type 0) (ending : Ending) : Type 0 where
-    Followed : (command : Command) → Means (Ok command) → EndsAt command ending
-        → EndsByMeaning Means ending
-    Explained : (error : Error) → Means (Err error) → Explains ending → EndsByMeaning Means ending
+  pub data EndsByMeaning (words : List (List ℕ)) (ending : Ending) : Type 0 where
+    Followed : (command : Command) → Means words (Ok command) → EndsAt command ending
+        → EndsByMeaning words ending
+    Explained : (error : Error) → Means words (Err error) → Explains error ending
+        → EndsByMeaning words ending
 
-  -- the words ask for a conversation, or it is looked for what they mean
-  abbrev pub EndsAtWords : Bool → (Result Command Error → Type 0) → Ending → Type 0
-  EndsAtWords true Means ending = Converses ending
-  EndsAtWords false Means ending = EndsByMeaning Means ending
+  -- a conversation is asked for, or it is looked for what the words mean
+  abbrev pub EndsAtWords : List (List ℕ) → Bool → Ending → Type 0
+  EndsAtWords words true ending = Converses ending
+  EndsAtWords words false ending = EndsByMeaning words ending
 
   -- how the program ends by its words, none where they can't be read, and by whether the system
   -- gave random bytes
-  abbrev pub Ends : (List (List ℕ) → Result Command Error → Type 0) → Option (List (List ℕ))
-      → Bool → Ending → Type 0
-  Ends means None random ending = ((ending ≡ ReadFault) × Rests through) × (after ≡ before)
-  Ends means (Some words) false ending =
-      ((ending ≡ ReadFault) × Rests through) × (after ≡ before)
-  Ends means (Some words) true ending = EndsAtWords (asks_play words) (means words) ending
+  abbrev pub Ends : Option (List (List ℕ)) → Bool → Ending → Type 0
+  Ends None random ending = ((ending ≡ ReadFault) × Rests through) × (after ≡ before)
+  Ends (Some words) false ending = ((ending ≡ ReadFault) × Rests through) × (after ≡ before)
+  Ends (Some words) true ending = EndsAtWords words (asks_play words) ending
 
 -- how the program ends, where `clap` may have told of the usage instead
 abbrev pub ending_of : {E : Type 0} → Result Ending E → Ending
@@ -155,10 +162,9 @@ IsReported heard hears ending = Reports heard hears (line_of ending)
 -- the program at these words ends with this status; heard and hears are what standard error held
 -- and holds
 pub record Commands {D : Type 0} (g : disk.Ghosts D) (text : List ℕ) (most : ℕ)
-    (means : List (List ℕ) → Result Command Error → Type 0) (words : Option (List (List ℕ)))
-    (random : Bool) (before after : Option (List (Deed D))) (through : Transfer)
-    (heard hears : Option (List ℕ)) (status : ℕ) : Type 0 where
+    (words : Option (List (List ℕ))) (random : Bool) (before after : Option (List (Deed D)))
+    (through : Transfer) (heard hears : Option (List ℕ)) (status : ℕ) : Type 0 where
   pub ending : Ending
-  pub ends : Ends g text most before after through means words random ending
+  pub ends : Ends g text most before after through words random ending
   pub reports : IsReported heard hears ending
   pub status_is : status ≡ status_of ending

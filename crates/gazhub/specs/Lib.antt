@@ -13,3 +13,4 @@ pub mod Commands
 pub mod WorkedJoined
 pub mod WorkedSites
 pub mod Reopened
+pub mod WorkedEndings

@@ -1,6 +1,7 @@
 -- Worked examples on what is done at a site, and on how the program ends.
 use Rattle.std.specs.Prelude.{◌≤◌, [], ◌∷◌, ℕ, suc, true, List, map, Option, Some, None, Ok, Err}
 use Rattle.std.specs.Borrow.{Bor}
+use Rattle.clap.specs.declared.error.kind.ErrorKind.TheVariants as kind
 use Rattle.sqlite_disk.specs.declared.Disk as disk
 use Rattle.gaz_commands.specs.declared.said.CommandFault.{CommandFault}
 use Rattle.gaz_commands.specs.declared.said.Said.TheVariants as said
@@ -14,7 +15,7 @@ use Rattle.gazhub.specs.Commands.{IsExplained, IsTold}
 use Rattle.gazhub.specs.Serving.{AreLeft, ServesRest}
 use Rattle.gazhub.specs.Sites.{Deed, Does, FindsRegister, Listened, Met, Opened, Read, ReadsFor}
 use Rattle.gazhub.specs.Sites.{WithFiles, whole}
-use Rattle.gazhub.specs.declared.ending.Ending.TheVariants.{Done, Failed, NoHub, NotDone}
+use Rattle.gazhub.specs.declared.ending.Ending.TheVariants.{Done, Failed, NoHub, Usage}
 use Rattle.gazhub.specs.declared.files.NoHub.{NoHub as WhyNoHub}
 use Rattle.gazhub.specs.declared.files.NoHub.TheVariants.{Store, Unreadable}
 use Rattle.gazhub.specs.declared.purpose.Purpose.{Purpose}
@@ -66,4 +67,8 @@ module _ {D : Type 0} (g : disk.Ghosts D) where
     -- where no hub was there to begin with, none was lost
     pub lost : (places : Places) (port connections : ℕ) (after : Option (List (Deed D)))
         (why : WhyNoHub) → ¬ ServesRest g places port connections nothing_done after (NoHub why)
-    pub not_explained : ¬ IsExplained NotDone
+    -- what is unknown is a fault of usage, and help is none
+    pub usage : IsExplained kind.UnknownArgument Usage
+    pub not_done_well : ¬ IsExplained kind.UnknownArgument Done
+    pub shown : IsExplained kind.DisplayHelp Done
+    pub not_usage : ¬ IsExplained kind.DisplayHelp Usage

@@ -9,7 +9,6 @@ mod files;
 mod growing;
 mod host;
 mod laws;
-mod meaning;
 mod migrating;
 mod obeying;
 mod port;
@@ -23,7 +22,6 @@ mod trials;
 
 use gaz_ledger::Seed;
 use host::Host;
-use meaning::Words;
 use obeying::command;
 use std::alloc::Global;
 use std::io::{BufWriter, Printer};
@@ -67,7 +65,6 @@ fn main(rt: HostRuntime) -> ExitCode {
     let status = command(
         &mut Host::of(&rt),
         rt.alloc(),
-        &Words,
         words,
         seed,
         &mut rt.reader(),

@@ -3,7 +3,7 @@ ghost use Rattle.std.specs.Prelude.{◌≡◌, is_some, map, option_map, string_
 ghost use Rattle.std.specs.Io.KnownBytes.{Keeps};
 ghost use Rattle.gaz_exchange.specs.Conversing.{transfer};
 ghost use Rattle.gazhub.specs.Commands.{Commands, Ends, EndsAt, EndsByMeaning, IsExplained};
-ghost use Rattle.gazhub.specs.Commands.{IsFinished, IsTold, Reports, ending_of};
+ghost use Rattle.gazhub.specs.Commands.{IsFinished, IsShown, IsTold, Reports, ending_of};
 ghost use Rattle.gazhub.specs.Endings.{is_silent, line_of};
 
 use crate::attending::serve;
@@ -11,7 +11,6 @@ use crate::commands::{ask, init};
 use crate::ending::Ending;
 use crate::files::NoHub;
 use crate::growing::extend;
-use crate::meaning::Grammar;
 use crate::migrating::migrate;
 use crate::program::{MOST, play};
 use crate::sample::SAMPLE;
@@ -21,7 +20,7 @@ use clap::error::ErrorKind;
 use gaz_commands::{Said, print};
 use gaz_exchange::write_all;
 use gaz_ledger::Seed;
-use gaz_words::{Command, asks_play};
+use gaz_words::{Command, asks_play, read};
 use std::alloc::Global;
 use std::io::{Read, Write};
 
@@ -44,17 +43,26 @@ fn tell<W: Write>(w: &mut W, said: &Said) -> Ending
 }
 
 // Prints help, or the version.
-fn tell_help<W: Write>(w: &mut W, help: &Error) -> Ending
-    ensures silent { is_silent result ≡ true → Keeps (W.contents w.old) (W.contents w.new) }
-    ensures explained { IsExplained result }
+fn show<W: Write>(w: &mut W, help: &Error) -> Ending
+    ensures { IsShown result }
 {
-    if help.kind() == ErrorKind::OutOfMemory {
-        return Ending::Memory;
-    }
     if write!(w, "{help}").is_ok() && w.flush().is_ok() {
         Ending::Done
     } else {
         Ending::WriteFault
+    }
+}
+
+// Prints help or the version where they were asked for, or gives what is said of a fault of usage.
+fn explain<W: Write>(w: &mut W, error: Error) -> Result<Ending, Error>
+    ensures explained { IsExplained error.entry.kind (ending_of result) }
+    ensures silent { is_silent (ending_of result) ≡ true
+        → Keeps (W.contents w.old) (W.contents w.new) }
+{
+    match error.kind() {
+        ErrorKind::OutOfMemory => Ok(Ending::Memory),
+        ErrorKind::DisplayHelp | ErrorKind::DisplayVersion => Ok(show(w, &error)),
+        _ => Err(error),
     }
 }
 
@@ -93,10 +101,9 @@ fn obey<S: Site, R: Read, W: Write>(
 }
 
 // Does what the words mean, or gives what is said of their usage.
-fn follow<S: Site, G: Grammar, R: Read, W: Write>(
+fn follow<S: Site, R: Read, W: Write>(
     site: &mut S,
     alloc: Global,
-    grammar: &G,
     words: &[String],
     seed: Seed,
     r: &mut R,
@@ -104,32 +111,25 @@ fn follow<S: Site, G: Grammar, R: Read, W: Write>(
 ) -> Result<Ending, Error>
     ensures { EndsByMeaning S.Medium.Disk SAMPLE.now MOST (S.deeds site.old) (S.deeds site.new)
         (transfer R.remaining W.contents r.old r.new w.old w.new)
-        (G.means (map string_bytes words.now)) (ending_of result) }
+        (map string_bytes words.now) (ending_of result) }
 {
-    match grammar.read(alloc, words) {
+    match read(alloc, words) {
         Ok(command) => Ok(obey(site, alloc, seed, command, r, w)),
-        Err(error) => {
-            if is_usage(&error) {
-                Err(error)
-            } else {
-                Ok(tell_help(w, &error))
-            }
-        }
+        Err(error) => explain(w, error),
     }
 }
 
 // Does what the words ask, or gives what is said of their usage.
-fn begin<S: Site, G: Grammar, R: Read, W: Write>(
+fn begin<S: Site, R: Read, W: Write>(
     site: &mut S,
     alloc: Global,
-    grammar: &G,
     words: Option<&[String]>,
     seed: Option<Seed>,
     r: &mut R,
     w: &mut W,
 ) -> Result<Ending, Error>
     ensures { Ends S.Medium.Disk SAMPLE.now MOST (S.deeds site.old) (S.deeds site.new)
-        (transfer R.remaining W.contents r.old r.new w.old w.new) G.means
+        (transfer R.remaining W.contents r.old r.new w.old w.new)
         (option_map (λ all. map string_bytes all.now) words.entry) (is_some seed)
         (ending_of result) }
 {
@@ -143,12 +143,7 @@ fn begin<S: Site, G: Grammar, R: Read, W: Write>(
     if asks_play(words) {
         return Ok(play(alloc, seed, r, w));
     }
-    follow(site, alloc, grammar, words, seed, r, w)
-}
-
-// Whether the words are at fault.
-fn is_usage(error: &Error) -> bool {
-    error.use_stderr() && error.kind() != ErrorKind::OutOfMemory
+    follow(site, alloc, words, seed, r, w)
 }
 
 /// Says how the program ends, where there is something to say. What can't be said is lost.
@@ -163,26 +158,25 @@ pub fn report<E: Write>(errors: &mut E, ending: Ending)
 /// Gives the exit status.
 ///
 /// `words` are those behind the program's name, none where they can't be read; `seed` is none where
-/// the system gives no random bytes. The command is what the grammar finds in the words. Where the
-/// site knows what was done at it, it is said which files were read and opened, in which order, and
-/// that what is printed is what a hub over them answered.
-pub fn command<S: Site, G: Grammar, R: Read, W: Write, E: Write>(
+/// the system gives no random bytes. The command is the one that the words mean, and the status 2
+/// says that they mean none. Where the site knows what was done at it, it is said which files were
+/// read and opened, in which order, and that what is printed is what a hub over them answered.
+pub fn command<S: Site, R: Read, W: Write, E: Write>(
     site: &mut S,
     alloc: Global,
-    grammar: &G,
     words: Option<&[String]>,
     seed: Option<Seed>,
     r: &mut R,
     w: &mut W,
     errors: &mut E,
 ) -> u8
-    ensures { Commands S.Medium.Disk SAMPLE.now MOST G.means
+    ensures { Commands S.Medium.Disk SAMPLE.now MOST
         (option_map (λ all. map string_bytes all.now) words.entry) (is_some seed)
         (S.deeds site.old) (S.deeds site.new)
         (transfer R.remaining W.contents r.old r.new w.old w.new)
         (E.contents errors.old) (E.contents errors.new) result }
 {
-    match begin(site, alloc, grammar, words, seed, r, w) {
+    match begin(site, alloc, words, seed, r, w) {
         Ok(ending) => {
             report(errors, ending);
             ending.status()

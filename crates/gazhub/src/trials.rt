@@ -1,6 +1,5 @@
 //! Commands, and a connection, as the program's own functions answer them in one process.
 use crate::host::Host;
-use crate::meaning::Words;
 use crate::obeying::command;
 use crate::purpose::Purpose;
 use crate::sample::SAMPLE;
@@ -89,7 +88,6 @@ fn told(rt: &HostRuntime, places: &[&str], line: &str) -> Result<(u8, Vec<u8>), 
     let status = command(
         &mut Host::of(rt),
         alloc,
-        &Words,
         Some(words.as_slice()),
         Some(Seed::of(1)),
         &mut b"".as_slice(),
