@@ -95,8 +95,7 @@ module _ (name : Text) (rows : List Row) where
           let rows_are : rows_after s.rules [] p.1 ≡ rows = ap (λ o. option_map_or (λ named. named.1) o []) e in
           let given = given_to s p.1 is.0 none in
           let same : p.0 ≡ name = sym is.1 ∙ name_is in
-          let wanted_is : find (λ s. bytes_eq s.name name) (built gazhub).subs ≡ Some s = subst (λ n. find (λ s. bytes_eq s.name n) (built gazhub).subs ≡ Some s) same at in
-          (
+          let wanted_is : find (λ s. bytes_eq s.name name) (built gazhub).subs ≡ Some s = subst (λ n. find (λ s. bytes_eq s.name n) (built gazhub).subs ≡ Some s) same at in (
             is_own name (subst (λ name. name ≢ codes "help") same other) (some_found (built gazhub).subs name s wanted_is),
             subst (λ o. AllByRecursion (IsGiven rows) (option_map_or wanted_by o [])) (sym wanted_is) (subst (λ rows. AllByRecursion (IsGiven rows) (wanted_by s)) rows_are given),
           )

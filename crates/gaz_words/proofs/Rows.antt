@@ -363,8 +363,7 @@ module _ (s : Shape) (once : s.args_override_self ≡ false) (plain : list_all i
           let named_so : r.id ≡ a.id = same_text r.id a.id is.0 in
           let own = first_is rules a distinct at in
           let other : arg_by_id rules a.id ≡ Some is.1.0 = subst (λ id. arg_by_id rules id ≡ Some is.1.0) named_so is.1.2 in
-          let same : is.1.0 ≡ a = cc in
-          (
+          let same : is.1.0 ≡ a = cc in (
             is.1.1,
             ap (option_and_then (λ r. slice_get r.values 0)) e ∙ ap (λ values. slice_get values 0) is.1.3,
             ap (option_and_then walk.row_text) e ∙ ap₂ (λ reading values. option_map (read_as reading) (slice_get values 0)) (is.1.5 ∙ ap walk.reading_by same) is.1.3,

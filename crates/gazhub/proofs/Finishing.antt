@@ -20,6 +20,6 @@ pub finishes : (Works : Result Said NoHub → Type 0) (through : Transfer) (told
     → (is_silent ending ≡ true → Keeps through.held through.holds) → Finishes Works through ending
 finishes Works through told ending works finished read printed = record { told = told; works = works; finished = finished; silent = record { read = read; printed = printed } }
 
-pub explains : {D : Type 0} (g : disk.Ghosts D) (text : List ℕ) (most : ℕ) (before : Option (List (Deed D))) (through : Transfer) (error : Error) (ending : Ending) → IsExplained error.kind ending → Keeps through.had through.left
-    → (is_silent ending ≡ true → Keeps through.held through.holds) → Explains g text most before before through error ending
-explains g text most before through error ending explained read printed = record { explained = explained; silent = record { read = read; printed = printed }; still = refl }
+pub explains : {S D : Type 0} (done : S → Deed D → S → Type 0) (g : disk.Ghosts D) (text : List ℕ) (most : ℕ) (before : S) (through : Transfer) (error : Error) (ending : Ending) → IsExplained error.kind ending
+    → Keeps through.had through.left → (is_silent ending ≡ true → Keeps through.held through.holds) → Explains done g text most before before through error ending
+explains done g text most before through error ending explained read printed = record { explained = explained; silent = record { read = read; printed = printed }; still = refl }

@@ -14,7 +14,7 @@ use Rattle.gaz_words.specs.declared.command.Places.{Places}
 use Rattle.gazhub.specs.Endings.{is_silent}
 use Rattle.gazhub.specs.Filing.{OpensNone, ServesStore}
 use Rattle.gazhub.specs.Serving.{AreLeft, AreSome, Begins, Fewer, NeverTold, NoMore, ServeComesTo, ServesIn, ServesOnce, ServesRest, Untold, Whole, said_of_serving}
-use Rattle.gazhub.specs.Sites.{Deed, Does, Listened, Met}
+use Rattle.gazhub.specs.Sites.{Closed, Deed, Listened, Met}
 use Rattle.gazhub.specs.declared.ending.Ending.{Ending}
 use Rattle.gazhub.specs.declared.ending.Ending.TheVariants.{Done, Failed, Lost, Memory, NoHub, NotDone, ReadFault, Usage, WriteFault}
 use Rattle.gazhub.specs.declared.files.NoHub.{NoHub as WhyNoHub}
@@ -27,32 +27,32 @@ some_of connections (Ok (Err Unwritten)) many = tt
 some_of connections (Ok (Err NoPort)) many = tt
 some_of connections (Err refusal) many = tt
 
--- a port was listened at, and then peers were answered or weren't
-pub serves_in : {S D R W : Type 0} (g : disk.Ghosts D) (deeds : S → Option (List (Deed D))) (meets : S → Meeting → S → Type 0) (tells : (old new : S) (met : Meeting) → meets old met new → Does (deeds old) (deeds new) (Met met ∷ []))
-    (read_failed : R → R → Type 0) (write_failed : W → W → Type 0) (port connections : ℕ) (register : RegisterValue) (files : Files D) (left : Option (Files D)) (before mid after : S) (bound : Option ℕ) (had has : Option (List ℕ))
-    (held : Result (Result ℕ Unserved) StoreRefusal) (told : Result (Option ℕ) WhyNoHub) → Does (deeds before) (deeds mid) (Listened port bound ∷ []) → IsAnnounced bound had has held
-    → IfOk held (λ how. WithPeers meets read_failed write_failed (ServesStore g files left register 1000 how) mid after) → IfErr held (λ _. after ≡ mid) → IfOk held (λ served. IfOk served (AreSome connections))
-    → IfErr held (OpensNone g files left register) → told ≡ said_of_serving held → ServesIn g port connections had has register files (deeds before) (deeds after) told
-serves_in g deeds meets tells read_failed write_failed port connections register files left before mid after bound had has (Ok how) told listened announced answers still some none is = record {
+-- a port was listened at, and then peers were answered or weren't, and the files were given back
+pub serves_in : {S D R W : Type 0} (done : S → Deed D → S → Type 0) (g : disk.Ghosts D) (meets : S → Meeting → S → Type 0) (tells : (old new : S) (met : Meeting) → meets old met new → done old (Met met) new)
+    (read_failed : R → R → Type 0) (write_failed : W → W → Type 0) (port connections : ℕ) (register : RegisterValue) (files : Files D) (left : Option (Files D)) (before mid served after : S) (bound : Option ℕ) (had has : Option (List ℕ))
+    (held : Result (Result ℕ Unserved) StoreRefusal) (told : Result (Option ℕ) WhyNoHub) → done before (Listened port bound) mid → IsAnnounced bound had has held
+    → IfOk held (λ how. WithPeers meets read_failed write_failed (ServesStore g files left register 1000 how) mid served) → IfErr held (λ _. served ≡ mid) → IfOk held (λ served. IfOk served (AreSome connections))
+    → IfErr held (OpensNone g files left register) → done served (Closed left) after → told ≡ said_of_serving held → ServesIn done g port connections had has register files before after told
+serves_in done g meets tells read_failed write_failed port connections register files left before mid served after bound had has (Ok how) told listened announced answers still some none closed is = record {
   left = left;
   held = Ok how;
   bound = bound;
   announced = announced;
   met = answers.met;
-  does = does_then (deeds before) (deeds mid) (deeds after) (Listened port bound ∷ []) (map Met answers.met) listened (all_met deeds meets tells answers.met mid after answers.are_met);
+  does = (mid, listened, does_then done (map Met answers.met) (Closed left ∷ []) mid served after (all_met done meets tells answers.met mid served answers.are_met) (after, closed, refl));
   serves = answers.then;
   some = some;
   none = tt;
   nobody = tt;
   told_is = is;
 }
-serves_in g deeds meets tells read_failed write_failed port connections register files left before mid after bound had has (Err why) told listened announced answers still some none is = record {
+serves_in done g meets tells read_failed write_failed port connections register files left before mid served after bound had has (Err why) told listened announced answers still some none closed is = record {
   left = left;
   held = Err why;
   bound = bound;
   announced = announced;
   met = [];
-  does = subst (λ s. Does (deeds before) (deeds s) (Listened port bound ∷ [])) (sym still) listened;
+  does = (mid, listened, (after, subst (λ s. done s (Closed left) after) still closed, refl));
   serves = tt;
   some = tt;
   none = none;
@@ -79,31 +79,31 @@ turns_left (suc left) served turn connections told e some n fits =
     let are = subst (λ told. IfSome told (AreSome (suc left))) e some in
     omega (arith, are.0, are.1 (omega arith), fits)
 
-module _ {D : Type 0} (g : disk.Ghosts D) (places : Places) (port connections : ℕ) (before : Option (List (Deed D))) where
+module _ {S D : Type 0} (done : S → Deed D → S → Type 0) (g : disk.Ghosts D) (places : Places) (port connections : ℕ) (before : S) where
   -- all were answered
-  pub whole : (left : ℕ) (after : Option (List (Deed D))) → left ≡ 0 → AreLeft g places port connections before left after → ServesRest g places port connections before after Done
-  whole left after e left_are = Whole (subst (λ left. AreLeft g places port connections before left after) e left_are)
+  pub whole : (left : ℕ) (after : S) → left ≡ 0 → AreLeft done g places port connections before left after → ServesRest done g places port connections before after Done
+  whole left after e left_are = Whole (subst (λ left. AreLeft done g places port connections before left after) e left_are)
 
   -- some more were
-  pub fewer : (left served : ℕ) (told : Option ℕ) (between after : Option (List (Deed D))) → AreLeft g places port connections before left between
-      → ServesOnce g places port left None None between after (Ok told) → told ≡ Some served → AreLeft g places port connections before (left - served) after
-  fewer left served told between after left_are once e = Fewer left served (left - served) between after left_are (subst (λ told. ServesOnce g places port left None None between after (Ok told)) e once) refl
+  pub fewer : (left served : ℕ) (told : Option ℕ) (between after : S) → AreLeft done g places port connections before left between
+      → ServesOnce done g places port left None None between after (Ok told) → told ≡ Some served → AreLeft done g places port connections before (left - served) after
+  fewer left served told between after left_are once e = Fewer left served (left - served) between after left_are (subst (λ told. ServesOnce done g places port left None None between after (Ok told)) e once) refl
 
-  pub untold : (left : ℕ) (told : Option ℕ) (between after : Option (List (Deed D))) → AreLeft g places port connections before left between
-      → ServesOnce g places port left None None between after (Ok told) → told ≡ None → ServesRest g places port connections before after WriteFault
-  untold left told between after left_are once e = Untold left between left_are (subst (λ told. ServesOnce g places port left None None between after (Ok told)) e once)
+  pub untold : (left : ℕ) (told : Option ℕ) (between after : S) → AreLeft done g places port connections before left between
+      → ServesOnce done g places port left None None between after (Ok told) → told ≡ None → ServesRest done g places port connections before after WriteFault
+  untold left told between after left_are once e = Untold left between left_are (subst (λ told. ServesOnce done g places port left None None between after (Ok told)) e once)
 
   module _ (had has : Option (List ℕ)) where
-    pub never_told : (told : Option ℕ) (after : Option (List (Deed D))) → ServesOnce g places port connections had has before after (Ok told) → told ≡ None
-        → ServeComesTo g places port connections had has before after WriteFault
-    never_told told after once e = NeverTold (subst (λ told. ServesOnce g places port connections had has before after (Ok told)) e once)
+    pub never_told : (told : Option ℕ) (after : S) → ServesOnce done g places port connections had has before after (Ok told) → told ≡ None
+        → ServeComesTo done g places port connections had has before after WriteFault
+    never_told told after once e = NeverTold (subst (λ told. ServesOnce done g places port connections had has before after (Ok told)) e once)
 
-    pub begins : (served : ℕ) (told : Option ℕ) (between after : Option (List (Deed D))) (ending : Ending) → ServesOnce g places port connections had has before between (Ok told) → told ≡ Some served
-        → ServesRest g places port (connections - served) between after ending → ServeComesTo g places port connections had has before after ending
-    begins served told between after ending once e rest = Begins served between ending (subst (λ told. ServesOnce g places port connections had has before between (Ok told)) e once) rest
+    pub begins : (served : ℕ) (told : Option ℕ) (between after : S) (ending : Ending) → ServesOnce done g places port connections had has before between (Ok told) → told ≡ Some served
+        → ServesRest done g places port (connections - served) between after ending → ServeComesTo done g places port connections had has before after ending
+    begins served told between after ending once e rest = Begins served between ending (subst (λ told. ServesOnce done g places port connections had has before between (Ok told)) e once) rest
 
   -- something may have been printed
-  pub speaks : (after : Option (List (Deed D))) (ending : Ending) → ServesRest g places port connections before after ending → is_silent ending ≡ false
+  pub speaks : (after : S) (ending : Ending) → ServesRest done g places port connections before after ending → is_silent ending ≡ false
   speaks after Done (Whole left_are) = refl
   speaks after WriteFault (Untold left between left_are once) = refl
   speaks after (Lost why) (NoMore left between _ left_are once) = refl

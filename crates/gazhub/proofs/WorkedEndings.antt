@@ -1,5 +1,5 @@
 -- Worked examples on how the program ends at words.
-use Rattle.std.proofs.Common.{◌≡◌, ◌∙◌, ℕ, codes, List, [], ◌∷◌, Option, inl, inr, sym, subst}
+use Rattle.std.proofs.Common.{◌≡◌, ◌∙◌, ℕ, codes, List, [], ◌∷◌, inl, inr, sym, subst}
 use Rattle.sqlite_disk.specs.declared.Disk as disk
 use Rattle.clap.specs.Kinds.{IsAmong}
 use Rattle.clap.specs.declared.error.kind.ErrorKind.{ErrorKind}
@@ -19,20 +19,20 @@ some_are : kind.UnknownArgument ∷ kind.InvalidSubcommand ∷ [] ≡ [] → ⊥
 some_are e = absurd (cc)
 
 -- by the kind that was told
-explained_as : (k as : ErrorKind) (ending : Ending) → k ≡ as → IsExplained k ending → IsExplained as ending
-explained_as k as ending e explained = subst (λ k. IsExplained k ending) e explained
+explained_as : (k told : ErrorKind) (ending : Ending) → k ≡ told → IsExplained k ending → IsExplained told ending
+explained_as k told ending e explained = subst (λ k. IsExplained k ending) e explained
 
-module _ {D : Type 0} (g : disk.Ghosts D) (text : List ℕ) (most : ℕ) (before after : Option (List (Deed D))) (through : Transfer) (ending : Ending) where
-  made : ComesTo g text most before after through ending making ((places : Places) × ArePlaces places × Finishes (InitComesTo g places before after) through ending)
+module _ {S D : Type 0} (done : S → Deed D → S → Type 0) (g : disk.Ghosts D) (text : List ℕ) (most : ℕ) (before after : S) (through : Transfer) (ending : Ending) where
+  made : ComesTo done g text most before after through ending making ((places : Places) × ArePlaces places × Finishes (InitComesTo done g places before after) through ending)
   made (Followed command means ends) =
       let is = worked_words.nothing_else command means in
-      inr (is.0, is.2, subst (λ command. EndsAt g text most before after through command ending) is.1 ends)
+      inr (is.0, is.2, subst (λ command. EndsAt done g text most before after through command ending) is.1 ends)
   made (Explained error means explains) = elim means [
     | inl e ↦ inl (explained_as error.kind kind.OutOfMemory ending e explains.explained)
     | inr among ↦ absurd (subst (IsAmong error.kind) worked_words.fine among)
   ]
 
-  unknown : ComesTo g text most before after through ending (codes "sumbit" ∷ []) (ending ≡ Usage)
+  unknown : ComesTo done g text most before after through ending (codes "sumbit" ∷ []) (ending ≡ Usage)
   unknown (Followed command means ends) = absurd (some_are (sym worked_words.unknown ∙ means.0))
   unknown (Explained error means explains) = elim means [
     | inl e ↦ inl (explained_as error.kind kind.OutOfMemory ending e explains.explained)
@@ -44,5 +44,5 @@ module _ {D : Type 0} (g : disk.Ghosts D) (text : List ℕ) (most : ℕ) (before
       of_kind (inr (inl e)) = explained_as error.kind kind.InvalidSubcommand ending e explains.explained
       of_kind (inr (inr none)) = absurd none
 
-  pub worked : WorkedEndings g text most before after through ending
+  pub worked : WorkedEndings done g text most before after through ending
   worked = record { made = made; unknown = unknown }

@@ -94,30 +94,30 @@ IsExplained kind.DisplayHelp ending = IsShown ending
 IsExplained kind.DisplayVersion ending = IsShown ending
 IsExplained _ ending = ending ≡ Usage
 
--- Below, g is what is seen of a disk, on which the store at a path is; before and after are what
--- was done at a site by then, where that is known; and a conversation is held at a hub of the
--- register that the text describes, with at most so many requests.
-module _ {D : Type 0} (g : disk.Ghosts D) (text : List ℕ) (most : ℕ)
-    (before after : Option (List (Deed D))) (through : Transfer) where
+-- Below, done says of a site between which states a deed can be, and g is what is seen of the disk
+-- on which the store at a path is; before and after are states of the site; and a conversation is
+-- held at a hub of the register that the text describes, with at most so many requests.
+module _ {S D : Type 0} (done : S → Deed D → S → Type 0) (g : disk.Ghosts D) (text : List ℕ)
+    (most : ℕ) (before after : S) (through : Transfer) where
   -- a conversation is held, for which nothing is done at a site
   abbrev pub Converses : Ending → Type 0
   Converses ending = Holds text most through ending × (after ≡ before)
 
   -- connections are answered
   pub record EndsServing (places : Places) (serving : Serving) (ending : Ending) : Type 0 where
-    pub serves : ServeComesTo g places serving.port serving.connections through.held
+    pub serves : ServeComesTo done g places serving.port serving.connections through.held
         through.holds before after ending
     pub silent : StaysSilent through ending
 
   -- how the program ends, by the command
   abbrev pub EndsAt : Command → Ending → Type 0
   EndsAt Play ending = Converses ending
-  EndsAt (Init places) ending = Finishes (InitComesTo g places before after) through ending
-  EndsAt (Ask places call) ending = Finishes (AskComesTo g places call before after) through ending
+  EndsAt (Init places) ending = Finishes (InitComesTo done g places before after) through ending
+  EndsAt (Ask places call) ending = Finishes (AskComesTo done g places call before after) through ending
   EndsAt (Serve places serving) ending = EndsServing places serving ending
   EndsAt (Extend places path) ending =
-      Finishes (ExtendComesTo g places path.now before after) through ending
-  EndsAt (Migrate places) ending = Finishes (MigrateComesTo g places before after) through ending
+      Finishes (ExtendComesTo done g places path.now before after) through ending
+  EndsAt (Migrate places) ending = Finishes (MigrateComesTo done g places before after) through ending
 
   -- help is printed, or what is wrong with the words is told, and nothing is done
   pub record Explains (error : Error) (ending : Ending) : Type 0 where
@@ -161,10 +161,10 @@ IsReported heard hears ending = Reports heard hears (line_of ending)
 
 -- the program at these words ends with this status; heard and hears are what standard error held
 -- and holds
-pub record Commands {D : Type 0} (g : disk.Ghosts D) (text : List ℕ) (most : ℕ)
-    (words : Option (List (List ℕ))) (random : Bool) (before after : Option (List (Deed D)))
+pub record Commands {S D : Type 0} (done : S → Deed D → S → Type 0) (g : disk.Ghosts D)
+    (text : List ℕ) (most : ℕ) (words : Option (List (List ℕ))) (random : Bool) (before after : S)
     (through : Transfer) (heard hears : Option (List ℕ)) (status : ℕ) : Type 0 where
   pub ending : Ending
-  pub ends : Ends g text most before after through words random ending
+  pub ends : Ends done g text most before after through words random ending
   pub reports : IsReported heard hears ending
   pub status_is : status ≡ status_of ending

@@ -1,5 +1,5 @@
 -- Worked examples on what is done at a site, and on how the program ends.
-use Rattle.std.specs.Prelude.{◌≤◌, [], ◌∷◌, ℕ, suc, true, List, map, Option, Some, None, Ok, Err}
+use Rattle.std.specs.Prelude.{◌≡◌, ◌≤◌, ◌++◌, [], ◌∷◌, ℕ, suc, true, List, map, Option, Some, None, Ok, Err}
 use Rattle.std.specs.Borrow.{Bor}
 use Rattle.clap.specs.declared.error.kind.ErrorKind.TheVariants as kind
 use Rattle.sqlite_disk.specs.declared.Disk as disk
@@ -21,52 +21,52 @@ use Rattle.gazhub.specs.declared.files.NoHub.TheVariants.{Store, Unreadable}
 use Rattle.gazhub.specs.declared.purpose.Purpose.{Purpose}
 
 module _ {D : Type 0} (g : disk.Ghosts D) where
-  -- nothing was done yet; a file was read, and gave nothing
-  abbrev pub nothing_done : Option (List (Deed D))
-  nothing_done = Some []
+  -- a site whose state is the list of what was done at it
+  abbrev pub noted : List (Deed D) → Deed D → List (Deed D) → Type 0
+  noted before deed after = after ≡ before ++ deed ∷ []
 
-  abbrev pub read_in_vain : List ℕ → Option (List (Deed D))
-  read_in_vain path = Some (Read path whole None ∷ [])
+  -- a file was read, and gave nothing
+  abbrev pub read_in_vain : List ℕ → List (Deed D)
+  read_in_vain path = Read path whole None ∷ []
 
   pub record WorkedSites : Type 0 where
-    pub read : (path : List ℕ) → Does nothing_done (read_in_vain path) (Read path whole None ∷ [])
-    pub not_read : (path : List ℕ) → ¬ Does nothing_done nothing_done (Read path whole None ∷ [])
+    pub read : (path : List ℕ) → Does noted [] (Read path whole None ∷ []) (read_in_vain path)
+    pub not_read : (path : List ℕ) → ¬ Does noted [] (Read path whole None ∷ []) []
     -- a file that can't be read gives no register
     pub unreadable : (path : List ℕ)
-        → FindsRegister nothing_done (read_in_vain path) path (Err Unreadable)
+        → FindsRegister noted [] (read_in_vain path) path (Err Unreadable)
     pub not_found : (path : List ℕ) (register : RegisterValue)
-        → ¬ FindsRegister nothing_done (read_in_vain path) path (Ok register)
+        → ¬ FindsRegister noted [] (read_in_vain path) path (Ok register)
     -- a submission reads its file, up to a byte more than a hub takes; a question reads none
     pub submits : (code volume path : Bor (List ℕ)) (bytes : Option (List ℕ))
-        → ReadsFor nothing_done (Some (Read path.now (suc most_bytes) bytes ∷ []))
+        → ReadsFor noted [] (Read path.now (suc most_bytes) bytes ∷ [])
         (Submit code volume path) bytes
     pub not_submitted : (code volume path : Bor (List ℕ)) (bytes : Option (List ℕ))
-        → ¬ ReadsFor nothing_done nothing_done (Submit code volume path) bytes
-    pub asks : (code : Bor (List ℕ)) → ReadsFor nothing_done nothing_done (Status code) None
+        → ¬ ReadsFor noted [] [] (Submit code volume path) bytes
+    pub asks : (code : Bor (List ℕ)) → ReadsFor noted [] [] (Status code) None
     -- files that can't be opened are no store
     pub no_files : (path : List ℕ) (purpose : Purpose)
-        → WithFiles {A = Unit {0}} path purpose (λ files before after told. ⊥) nothing_done
-        (Some (Opened path purpose None ∷ [])) (Err (Store Fault))
+        → WithFiles noted {A = Unit {0}} path purpose (λ files before after told. ⊥) []
+        (Opened path purpose None ∷ []) (Err (Store Fault))
     -- a port is listened at, and a peer comes and is left; where nobody came, none was missed
     pub meets : (port : ℕ) (said told : Option (List ℕ))
-        → Does nothing_done (Some (Listened port (Some port) ∷ Met (Came said (Some []))
-        ∷ Met (Left (Some []) told true) ∷ []))
-        (Listened port (Some port) ∷ map Met (Came said (Some [])
+        → Does noted [] (Listened port (Some port) ∷ map Met (Came said (Some [])
         ∷ Left (Some []) told true ∷ []))
-    pub not_met : (port : ℕ) → ¬ Does nothing_done (Some (Listened port (Some port) ∷ []))
-        (Listened port (Some port) ∷ map Met (Missed ∷ []))
+        (Listened port (Some port) ∷ Met (Came said (Some [])) ∷ Met (Left (Some []) told true) ∷ [])
+    pub not_met : (port : ℕ) → ¬ Does noted []
+        (Listened port (Some port) ∷ map Met (Missed ∷ [])) (Listened port (Some port) ∷ [])
     -- a fault ends the program as one, and prints nothing
     pub failed : (fault : CommandFault) → IsTold (Some []) (Some []) (said.Failed fault) (Failed fault)
     pub not_done : (fault : CommandFault) → ¬ IsTold (Some []) (Some []) (said.Failed fault) Done
     -- behind no opening all connections are left, and behind any no more than were wanted
-    pub all_left : (places : Places) (port connections : ℕ) (done : Option (List (Deed D)))
-        → AreLeft g places port connections done connections done
-    pub none_more : (places : Places) (port connections : ℕ) (before : Option (List (Deed D)))
-        (left : ℕ) (after : Option (List (Deed D)))
-        → AreLeft g places port connections before left after → left ≤ connections
+    pub all_left : (places : Places) (port connections : ℕ) (site : List (Deed D))
+        → AreLeft noted g places port connections site connections site
+    pub none_more : (places : Places) (port connections : ℕ) (before : List (Deed D)) (left : ℕ)
+        (after : List (Deed D)) → AreLeft noted g places port connections before left after
+        → left ≤ connections
     -- where no hub was there to begin with, none was lost
-    pub lost : (places : Places) (port connections : ℕ) (after : Option (List (Deed D)))
-        (why : WhyNoHub) → ¬ ServesRest g places port connections nothing_done after (NoHub why)
+    pub lost : (places : Places) (port connections : ℕ) (after : List (Deed D))
+        (why : WhyNoHub) → ¬ ServesRest noted g places port connections [] after (NoHub why)
     -- what is unknown is a fault of usage, and help is none
     pub usage : IsExplained kind.UnknownArgument Usage
     pub not_done_well : ¬ IsExplained kind.UnknownArgument Done

@@ -46,14 +46,14 @@ fn serve_in<S: Site, W: Write>(
 ) -> Result<Option<u64>, NoHub>
     requires log { IsTrue (S.Medium.Disk.is_usable files.log) }
     requires db { IsTrue (S.Medium.Disk.is_usable files.db) }
-    ensures served { ServesIn S.Medium.Disk serving.port serving.connections
+    ensures served { ServesIn S.done S.Medium.Disk serving.port serving.connections
         (W.contents w.old) (W.contents w.new) register files
-        (S.deeds site.old) (S.deeds site.new) result }
+        site.old site.new result }
     ensures silent { IfErr result (λ _. Keeps (W.contents w.old) (W.contents w.new)) }
     ensures some { IfOk result (λ told. IfSome told (AreSome serving.connections)) }
 {
     let port = site.listen(serving.port);
-    let (_closed, held) = serve_store(
+    let (left, held) = serve_store(
         alloc,
         files,
         options,
@@ -64,6 +64,7 @@ fn serve_in<S: Site, W: Write>(
         w,
         serving.connections,
     );
+    site.close(left);
     said_of_serving(held)
 }
 
@@ -76,8 +77,8 @@ fn serve_once<S: Site, W: Write>(
     serving: Serving,
     w: &mut W,
 ) -> Result<Option<u64>, NoHub>
-    ensures served { ServesOnce S.Medium.Disk places.entry serving.port serving.connections
-        (W.contents w.old) (W.contents w.new) (S.deeds site.old) (S.deeds site.new) result }
+    ensures served { ServesOnce S.done S.Medium.Disk places.entry serving.port serving.connections
+        (W.contents w.old) (W.contents w.new) site.old site.new result }
     ensures silent { IfErr result (λ _. Keeps (W.contents w.old) (W.contents w.new)) }
     ensures some { IfOk result (λ told. IfSome told (AreSome serving.connections)) }
 {
@@ -94,8 +95,8 @@ fn serve_rest<S: Site>(
     places: Places<'_>,
     serving: Serving,
 ) -> Ending
-    ensures { ServesRest S.Medium.Disk places.entry serving.port serving.connections
-        (S.deeds site.old) (S.deeds site.new) result }
+    ensures { ServesRest S.done S.Medium.Disk places.entry serving.port serving.connections
+        site.old site.new result }
 {
     let mut left = serving.connections;
     for _opening in 0..serving.connections {
@@ -126,8 +127,8 @@ pub fn serve<S: Site, W: Write>(
     serving: Serving,
     w: &mut W,
 ) -> Ending
-    ensures serves { ServeComesTo S.Medium.Disk places.entry serving.port serving.connections
-        (W.contents w.old) (W.contents w.new) (S.deeds site.old) (S.deeds site.new) result }
+    ensures serves { ServeComesTo S.done S.Medium.Disk places.entry serving.port serving.connections
+        (W.contents w.old) (W.contents w.new) site.old site.new result }
     ensures silent { is_silent result ≡ true → Keeps (W.contents w.old) (W.contents w.new) }
 {
     match serve_once(site, alloc, seed, places, serving, w) {

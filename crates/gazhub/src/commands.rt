@@ -24,10 +24,11 @@ fn init_in<S: Site>(
 ) -> Result<Said, NoHub>
     requires log { IsTrue (S.Medium.Disk.is_usable files.log) }
     requires db { IsTrue (S.Medium.Disk.is_usable files.db) }
-    ensures { MakesIn S.Medium.Disk register.now files
-        (S.deeds site.old) (S.deeds site.new) result }
+    ensures { MakesIn S.done S.Medium.Disk register.now files
+        site.old site.new result }
 {
-    let (_closed, made) = make_store(alloc, files, options, seed, register);
+    let (left, made) = make_store(alloc, files, options, seed, register);
+    site.close(left);
     of_store(made)
 }
 
@@ -38,7 +39,7 @@ pub fn init<S: Site>(
     seed: Seed,
     places: Places<'_>,
 ) -> Result<Said, NoHub>
-    ensures { InitComesTo S.Medium.Disk places.entry (S.deeds site.old) (S.deeds site.new) result }
+    ensures { InitComesTo S.done S.Medium.Disk places.entry site.old site.new result }
 {
     let register = read_register(site, alloc, places.register)?;
     let (files, options) = open_files(site, places.store, Purpose::Make)?;
@@ -57,12 +58,13 @@ fn ask_in<S: Site>(
 ) -> Result<Said, NoHub>
     requires log { IsTrue (S.Medium.Disk.is_usable files.log) }
     requires db { IsTrue (S.Medium.Disk.is_usable files.db) }
-    ensures { AsksIn S.Medium.Disk call.entry register files
-        (S.deeds site.old) (S.deeds site.new) result }
+    ensures { AsksIn S.done S.Medium.Disk call.entry register files
+        site.old site.new result }
 {
     let bytes = read_change_file(site, call);
     let file = bytes.as_ref().map(|bytes| bytes.as_slice());
-    let (_closed, said) = ask_store(alloc, files, options, seed, register, call, file);
+    let (left, said) = ask_store(alloc, files, options, seed, register, call, file);
+    site.close(left);
     of_store(said)
 }
 
@@ -74,8 +76,8 @@ pub fn ask<S: Site>(
     places: Places<'_>,
     call: Call<'_>,
 ) -> Result<Said, NoHub>
-    ensures { AskComesTo S.Medium.Disk places.entry call.entry
-        (S.deeds site.old) (S.deeds site.new) result }
+    ensures { AskComesTo S.done S.Medium.Disk places.entry call.entry
+        site.old site.new result }
 {
     let register = read_register(site, alloc, places.register)?;
     let (files, options) = open_files(site, places.store, Purpose::Use)?;

@@ -29,7 +29,7 @@ pub enum NoHub {
 
 /// The register whose file stands at a path.
 pub fn read_register<S: Site>(site: &mut S, alloc: Global, path: &str) -> Result<Register, NoHub>
-    ensures { FindsRegister (S.deeds site.old) (S.deeds site.new) path.now result }
+    ensures { FindsRegister S.done site.old site.new path.now result }
 {
     let Some(text) = site.read(path, u64::MAX) else {
         return Err(NoHub::Unreadable);
@@ -43,7 +43,7 @@ pub fn read_register<S: Site>(site: &mut S, alloc: Global, path: &str) -> Result
 /// The bytes of the change file, where a call names one that can be read; of one that is too large
 /// a byte more than a hub takes, so that its door finds it so.
 pub fn read_change_file<S: Site>(site: &mut S, call: Call<'_>) -> Option<Vec<u8>>
-    ensures { ReadsFor (S.deeds site.old) (S.deeds site.new) call.entry (bytes_of result) }
+    ensures { ReadsFor S.done site.old site.new call.entry (bytes_of result) }
 {
     match call {
         Call::Submit { file, .. } => site.read(file, MOST_BYTES + 1),
@@ -57,7 +57,7 @@ pub fn open_files<S: Site>(
     path: &str,
     purpose: Purpose,
 ) -> Result<(Files<S::Medium>, Options), NoHub>
-    ensures found { FindsFiles (S.deeds site.old) (S.deeds site.new) path.now purpose result }
+    ensures found { FindsFiles S.done site.old site.new path.now purpose result }
     ensures log { IfOk result (λ found. IsTrue (S.Medium.Disk.is_usable found.0.log)) }
     ensures db { IfOk result (λ found. IsTrue (S.Medium.Disk.is_usable found.0.db)) }
 {

@@ -83,10 +83,11 @@ fn extend_in<S: Site>(
 ) -> Result<Said, NoHub>
     requires log { IsTrue (S.Medium.Disk.is_usable files.log) }
     requires db { IsTrue (S.Medium.Disk.is_usable files.db) }
-    ensures { GrowsIn S.Medium.Disk register grown files
-        (S.deeds site.old) (S.deeds site.new) result }
+    ensures { GrowsIn S.done S.Medium.Disk register grown files
+        site.old site.new result }
 {
-    let (_closed, told) = extend_store(alloc, files, options, seed, register, grown);
+    let (left, told) = extend_store(alloc, files, options, seed, register, grown);
+    site.close(left);
     said_of_growth(told)
 }
 
@@ -99,8 +100,8 @@ fn extend_to<S: Site>(
     store: &str,
     grown: &str,
 ) -> Result<Said, NoHub>
-    ensures { ExtendsTo S.Medium.Disk store.now grown.now register
-        (S.deeds site.old) (S.deeds site.new) result }
+    ensures { ExtendsTo S.done S.Medium.Disk store.now grown.now register
+        site.old site.new result }
 {
     let grown = read_register(site, alloc, grown)?;
     let (files, options) = open_files(site, store, Purpose::Use)?;
@@ -117,8 +118,8 @@ pub fn extend<S: Site>(
     places: Places<'_>,
     grown: &str,
 ) -> Result<Said, NoHub>
-    ensures { ExtendComesTo S.Medium.Disk places.entry grown.now
-        (S.deeds site.old) (S.deeds site.new) result }
+    ensures { ExtendComesTo S.done S.Medium.Disk places.entry grown.now
+        site.old site.new result }
 {
     let register = read_register(site, alloc, places.register)?;
     extend_to(site, alloc, seed, register, places.store, grown)

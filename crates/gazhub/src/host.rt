@@ -1,5 +1,5 @@
 //! The system's own files, and a port of it.
-ghost use Rattle.std.specs.Prelude.{⊤, None};
+ghost use Rattle.std.specs.Prelude.{⊤};
 
 use crate::port::{accepted, part};
 use crate::purpose::Purpose;
@@ -130,7 +130,7 @@ impl Peers for Host<'_> {
 impl Site for Host<'_> {
     type Medium = FileFrom<Unknown>;
 
-    ghost deeds = { λ _. None };
+    ghost done = { λ _ _ _. ⊤ };
 
     ghost tells = { λ _ _ _ _. tt };
 
@@ -142,6 +142,13 @@ impl Site for Host<'_> {
         let options = self.options(path, purpose)?;
         let files = open(self.rt, path, Unknown).ok()?;
         Some((files, options))
+    }
+
+    // What is closed stays at its path.
+    fn close(&mut self, files: Option<Files<Self::Medium>>)
+        ensures { ⊤ }
+    {
+        drop(files);
     }
 
     fn listen(&mut self, port: u16) -> Option<u16> {

@@ -1,15 +1,15 @@
 //! What a reader of the definitions may rely on.
-ghost use Rattle.std.specs.Prelude.{ℕ, List, Option};
+ghost use Rattle.std.specs.Prelude.{ℕ, List};
 ghost use Rattle.gaz_exchange.specs.Conversing.{Transfer};
 ghost use Rattle.gazhub.specs.Grown.{GrownCallsAreOne};
 ghost use Rattle.gazhub.specs.Joined.{CallsAreOne};
 ghost use Rattle.gazhub.specs.Reopened.{NextOpens};
-ghost use Rattle.gazhub.specs.Sites.{Deed};
 ghost use Rattle.gazhub.specs.WorkedEndings.{WorkedEndings};
 ghost use Rattle.gazhub.specs.WorkedJoined.{WorkedJoined};
 ghost use Rattle.gazhub.specs.WorkedSites.{WorkedSites};
 ghost use Rattle.gazhub.specs.declared.ending.Ending.{Ending};
 
+use crate::site::Site;
 use gaz_stored::laws::{chains_are_one, grown_chains_are_one};
 use sqlite_disk::Disk;
 
@@ -49,8 +49,7 @@ pub fn worked_sites<D: Disk>()
 {}
 
 /// How the program ends at words, on worked examples.
-pub fn worked_endings<D: Disk>()
-    ensures { (text : List ℕ) (most : ℕ) (before after : Option (List (Deed D)))
-        (through : Transfer) (ending : Ending)
-        → WorkedEndings D.Disk text most before after through ending }
+pub fn worked_endings<S: Site>()
+    ensures { (text : List ℕ) (most : ℕ) (before after : S) (through : Transfer) (ending : Ending)
+        → WorkedEndings S.done S.Medium.Disk text most before after through ending }
 {}

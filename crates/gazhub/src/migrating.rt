@@ -62,10 +62,11 @@ fn migrate_in<S: Site>(
 ) -> Result<Said, NoHub>
     requires log { IsTrue (S.Medium.Disk.is_usable files.log) }
     requires db { IsTrue (S.Medium.Disk.is_usable files.db) }
-    ensures { MigratesIn S.Medium.Disk register.now files
-        (S.deeds site.old) (S.deeds site.new) result }
+    ensures { MigratesIn S.done S.Medium.Disk register.now files
+        site.old site.new result }
 {
-    let (_closed, told) = migrate_store(alloc, files, options, seed, register);
+    let (left, told) = migrate_store(alloc, files, options, seed, register);
+    site.close(left);
     said_of_migration(told)
 }
 
@@ -77,8 +78,8 @@ pub fn migrate<S: Site>(
     seed: Seed,
     places: Places<'_>,
 ) -> Result<Said, NoHub>
-    ensures { MigrateComesTo S.Medium.Disk places.entry
-        (S.deeds site.old) (S.deeds site.new) result }
+    ensures { MigrateComesTo S.done S.Medium.Disk places.entry
+        site.old site.new result }
 {
     let register = read_register(site, alloc, places.register)?;
     let (files, options) = open_files(site, places.store, Purpose::Migrate)?;

@@ -55,7 +55,7 @@ fn show<W: Write>(w: &mut W, help: &Error) -> Ending
 
 // Prints help or the version where they were asked for, or gives what is said of a fault of usage.
 fn explain<W: Write>(w: &mut W, error: Error) -> Result<Ending, Error>
-    ensures explained { IsExplained error.entry.kind (ending_of result) }
+    ensures explained { IsExplained error.kind (ending_of result) }
     ensures silent { is_silent (ending_of result) ≡ true
         → Keeps (W.contents w.old) (W.contents w.new) }
 {
@@ -87,7 +87,7 @@ fn obey<S: Site, R: Read, W: Write>(
     r: &mut R,
     w: &mut W,
 ) -> Ending
-    ensures { EndsAt S.Medium.Disk SAMPLE.now MOST (S.deeds site.old) (S.deeds site.new)
+    ensures { EndsAt S.done S.Medium.Disk SAMPLE.now MOST site.old site.new
         (transfer R.remaining W.contents r.old r.new w.old w.new) command.entry result }
 {
     match command {
@@ -109,7 +109,7 @@ fn follow<S: Site, R: Read, W: Write>(
     r: &mut R,
     w: &mut W,
 ) -> Result<Ending, Error>
-    ensures { EndsByMeaning S.Medium.Disk SAMPLE.now MOST (S.deeds site.old) (S.deeds site.new)
+    ensures { EndsByMeaning S.done S.Medium.Disk SAMPLE.now MOST site.old site.new
         (transfer R.remaining W.contents r.old r.new w.old w.new)
         (map string_bytes words.now) (ending_of result) }
 {
@@ -128,7 +128,7 @@ fn begin<S: Site, R: Read, W: Write>(
     r: &mut R,
     w: &mut W,
 ) -> Result<Ending, Error>
-    ensures { Ends S.Medium.Disk SAMPLE.now MOST (S.deeds site.old) (S.deeds site.new)
+    ensures { Ends S.done S.Medium.Disk SAMPLE.now MOST site.old site.new
         (transfer R.remaining W.contents r.old r.new w.old w.new)
         (option_map (λ all. map string_bytes all.now) words.entry) (is_some seed)
         (ending_of result) }
@@ -170,9 +170,9 @@ pub fn command<S: Site, R: Read, W: Write, E: Write>(
     w: &mut W,
     errors: &mut E,
 ) -> u8
-    ensures { Commands S.Medium.Disk SAMPLE.now MOST
+    ensures { Commands S.done S.Medium.Disk SAMPLE.now MOST
         (option_map (λ all. map string_bytes all.now) words.entry) (is_some seed)
-        (S.deeds site.old) (S.deeds site.new)
+        site.old site.new
         (transfer R.remaining W.contents r.old r.new w.old w.new)
         (E.contents errors.old) (E.contents errors.new) result }
 {

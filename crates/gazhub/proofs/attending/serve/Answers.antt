@@ -4,13 +4,13 @@ use Rattle.gazhub.proofs.Serving.{begins, never_told, speaks}
 use Rattle.gazhub.proofs.attending.serve.Goals as goal
 
 pub returns-in-Ok-Some-clause-serves : goal.returns-in-Ok-Some-clause-serves
-returns-in-Ok-Some-clause-serves g c = begins _ _ _ _ _ _ _ c.in-Ok-Some.served c.in-Ok-Some.field-0 _ _ _ c.in-Ok-Some.ensures.served c.in-Ok-Some.field-0-is c.serve_rest.ensures
+returns-in-Ok-Some-clause-serves g c = begins g.S.Site.done g.S.Medium.Disk _ _ _ _ _ _ c.in-Ok-Some.served c.in-Ok-Some.field-0 _ _ _ c.in-Ok-Some.ensures.served c.in-Ok-Some.field-0-is c.serve_rest.ensures
 
 pub returns-in-Ok-Some-clause-silent : goal.returns-in-Ok-Some-clause-silent
-returns-in-Ok-Some-clause-silent g c = λ e. absurd (true≢false (sym e ∙ speaks _ _ _ _ _ _ _ c.serve_rest.ensures))
+returns-in-Ok-Some-clause-silent g c = λ e. absurd (true≢false (sym e ∙ speaks g.S.Site.done g.S.Medium.Disk _ _ _ _ _ _ c.serve_rest.ensures))
 
 pub returns-in-Ok-None-clause-serves : goal.returns-in-Ok-None-clause-serves
-returns-in-Ok-None-clause-serves g c = never_told _ _ _ _ _ _ _ c.in-Ok-None.field-0 _ c.in-Ok-None.ensures.served c.in-Ok-None.field-0-is
+returns-in-Ok-None-clause-serves g c = never_told g.S.Site.done g.S.Medium.Disk _ _ _ _ _ _ c.in-Ok-None.field-0 _ c.in-Ok-None.ensures.served c.in-Ok-None.field-0-is
 
 pub returns-in-Err-clause-serves : goal.returns-in-Err-clause-serves
 returns-in-Err-clause-serves g c = NeverBegins c.in-Err.why c.in-Err.ensures.served

@@ -5,5 +5,5 @@ use Rattle.gazhub.proofs.attending.serve_rest.Given as goal
 
 abbrev pub invariant-loop-opening : goal.invariant-loop-opening
 invariant-loop-opening g l =
-    AreLeft g.S.Medium.Disk l.fn.places l.fn.serving.port l.fn.serving.connections (g.S.Site.deeds l.fn.site) l.left (g.S.Site.deeds l.site)
+    AreLeft g.S.Site.done g.S.Medium.Disk l.fn.places l.fn.serving.port l.fn.serving.connections l.fn.site l.left l.site
     × (l.left + l._opening ≤ l.fn.serving.connections)
