@@ -113,11 +113,13 @@ module _ {S D : Type 0} (done : S → Deed D → S → Type 0) (g : disk.Ghosts 
   abbrev pub EndsAt : Command → Ending → Type 0
   EndsAt Play ending = Converses ending
   EndsAt (Init places) ending = Finishes (InitComesTo done g places before after) through ending
-  EndsAt (Ask places call) ending = Finishes (AskComesTo done g places call before after) through ending
+  EndsAt (Ask places call) ending =
+      Finishes (AskComesTo done g places call before after) through ending
   EndsAt (Serve places serving) ending = EndsServing places serving ending
   EndsAt (Extend places path) ending =
       Finishes (ExtendComesTo done g places path.now before after) through ending
-  EndsAt (Migrate places) ending = Finishes (MigrateComesTo done g places before after) through ending
+  EndsAt (Migrate places) ending =
+      Finishes (MigrateComesTo done g places before after) through ending
 
   -- help is printed, or what is wrong with the words is told, and nothing is done
   pub record Explains (error : Error) (ending : Ending) : Type 0 where

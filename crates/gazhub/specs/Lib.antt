@@ -14,3 +14,4 @@ pub mod WorkedJoined
 pub mod WorkedSites
 pub mod Reopened
 pub mod WorkedEndings
+pub mod Desks

@@ -34,8 +34,8 @@ said_of_serving (Err refusal) = Err (none.Store refusal)
 abbrev pub AreSome : ℕ → ℕ → Type 0
 AreSome connections served = (served ≤ connections) × (1 ≤ connections → 1 ≤ served)
 
--- Below, g is what is seen of a disk, done says of a site between which states a deed can be, and had
--- and has are what the writer held and holds.
+-- Below, g is what is seen of a disk, done says of a site between which states a deed can be, and
+-- had and has are what the writer held and holds.
 module _ {S D : Type 0} (done : S → Deed D → S → Type 0) (g : disk.Ghosts D) where
   -- a port was listened at, and a hub of the register over the store in these files answered the
   -- peers that came, at most so many, or nobody, and that is told

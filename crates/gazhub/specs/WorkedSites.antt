@@ -1,5 +1,6 @@
 -- Worked examples on what is done at a site, and on how the program ends.
-use Rattle.std.specs.Prelude.{◌≡◌, ◌≤◌, ◌++◌, [], ◌∷◌, ℕ, suc, true, List, map, Option, Some, None, Ok, Err}
+use Rattle.std.specs.Prelude.{◌≡◌, ◌≤◌, ◌++◌, [], ◌∷◌, ℕ, suc, true, List, map, Option, Some, None}
+use Rattle.std.specs.Prelude.{Ok, Err}
 use Rattle.std.specs.Borrow.{Bor}
 use Rattle.clap.specs.declared.error.kind.ErrorKind.TheVariants as kind
 use Rattle.sqlite_disk.specs.declared.Disk as disk
@@ -52,11 +53,13 @@ module _ {D : Type 0} (g : disk.Ghosts D) where
     pub meets : (port : ℕ) (said told : Option (List ℕ))
         → Does noted [] (Listened port (Some port) ∷ map Met (Came said (Some [])
         ∷ Left (Some []) told true ∷ []))
-        (Listened port (Some port) ∷ Met (Came said (Some [])) ∷ Met (Left (Some []) told true) ∷ [])
+        (Listened port (Some port) ∷ Met (Came said (Some []))
+        ∷ Met (Left (Some []) told true) ∷ [])
     pub not_met : (port : ℕ) → ¬ Does noted []
         (Listened port (Some port) ∷ map Met (Missed ∷ [])) (Listened port (Some port) ∷ [])
     -- a fault ends the program as one, and prints nothing
-    pub failed : (fault : CommandFault) → IsTold (Some []) (Some []) (said.Failed fault) (Failed fault)
+    pub failed : (fault : CommandFault)
+        → IsTold (Some []) (Some []) (said.Failed fault) (Failed fault)
     pub not_done : (fault : CommandFault) → ¬ IsTold (Some []) (Some []) (said.Failed fault) Done
     -- behind no opening all connections are left, and behind any no more than were wanted
     pub all_left : (places : Places) (port connections : ℕ) (site : List (Deed D))

@@ -4,6 +4,8 @@
 
 mod attending;
 mod commands;
+#[cfg(test)]
+mod desk;
 mod ending;
 mod files;
 mod growing;
