@@ -12,7 +12,8 @@ use Rattle.clap.specs.Words.{built, fault_of, subcommand_of}
 use Rattle.gaz_words.specs.Grammar.{gazhub}
 use Rattle.gaz_words.specs.Meaning.{IsComplete, IsGiven, names, wanted_by}
 use Rattle.gaz_words.proofs.Named.{IsOther, walk_fine}
-use Rattle.gaz_words.proofs.Rows.{all_given, are_distinct, both, is_false, is_nil, is_plain, neither}
+use Rattle.gaz_words.proofs.Lists.{are_distinct, both, is_false, is_nil, is_plain, neither}
+use Rattle.gaz_words.proofs.Rows.{all_given}
 
 -- a command whose words are read so: it has one name, and its arguments are plain; or it wants none
 abbrev is_known : Shape → Bool

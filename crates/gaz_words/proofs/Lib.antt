@@ -1,3 +1,4 @@
+pub mod Lists
 pub mod Rows
 pub mod Named
 pub mod Entered

@@ -10,7 +10,7 @@ use Rattle.clap.specs.Walk as walk
 use Rattle.clap.specs.Walk.{Held, Names, Outcome, Rule, Step, Text, Waiting, Walk, nothing_held}
 use Rattle.clap.specs.declared.error.kind.ErrorKind.{ErrorKind}
 use Rattle.clap.specs.declared.error.kind.ErrorKind.TheVariants.{DisplayHelp, InvalidSubcommand}
-use Rattle.gaz_words.proofs.Rows.{neither}
+use Rattle.gaz_words.proofs.Lists.{neither}
 
 -- no command `help` was met
 abbrev pub IsOther : Option (Text × List Text) → Type 0
