@@ -36,8 +36,8 @@ abbrev pub line : App
 line = with_rule (over_store (codes "line")) (word (codes "UPRN"))
 
 abbrev pub extract : App
-extract =
-    with_rule (with_rule (over_store (codes "extract")) (word (codes "CODE"))) (word (codes "VOLUME"))
+extract = with_rule (with_rule (over_store (codes "extract")) (word (codes "CODE")))
+    (word (codes "VOLUME"))
 
 abbrev pub most_port : ℕ
 most_port = 65_535

@@ -6,8 +6,8 @@ use Rattle.std.specs.Option.{option_map_or}
 use Rattle.std.specs.Str.Parse.{IsNumeral, digits_value, without_leading_plus}
 use Rattle.clap.specs.Takes.{value_passes}
 use Rattle.clap.specs.Walk.{reading_by}
-use Rattle.clap.specs.Words.{HasKind, IsUnsignedIn, Row, Rule, Shape, Text, built, fault_of, first_of}
-use Rattle.clap.specs.Words.{one_of, read_as, subcommand_of}
+use Rattle.clap.specs.Words.{HasKind, IsUnsignedIn, Row, Rule, Shape, Text, built, fault_of}
+use Rattle.clap.specs.Words.{first_of, one_of, read_as, subcommand_of}
 use Rattle.clap.specs.declared.error.Error.{Error}
 use Rattle.gaz_words.specs.Grammar.{gazhub}
 use Rattle.gaz_words.specs.declared.command.Call.{Call}
