@@ -8,7 +8,6 @@ use crate::at_file::{Work, over_file};
 use crate::playing::register_in;
 use crate::stored::rests;
 use anyhow::{Context, Result, bail, ensure};
-use gaz_hub::Hub;
 use gaz_keeper::Inbox;
 use gaz_loaded::Listed;
 use gaz_mirror::{Mirror, Unshared};
@@ -109,7 +108,7 @@ fn goes_on<L: Inbox + Drop, U: Unshared + Drop>(alloc: Global, mirror: Mirror<L,
 fn goes_on_at_hand<K: Listed + Drop>(alloc: Global, register: Register, keeper: K) -> Result<()>
     requires { IsNotOpen (K.seen keeper).progress }
 {
-    let hub = mirrored(alloc, Seed::of(1), Hub::new(alloc, register, keeper));
+    let hub = mirrored(alloc, Seed::of(1), register, keeper);
     let (_, mirror) = hub.into_parts();
     goes_on(alloc, mirror)
 }

@@ -38,13 +38,12 @@ use anyhow::Result;
 use failing::{Failing, count_over_maps, over_maps};
 use floor::play_script;
 use gaz_store::StoreRefusal;
-use gaz_stored::ReadFrom;
 use listing::{Way, make_calls};
 use playing::play;
 use reading::print_reading;
 use std::env;
 use std::process::ExitCode;
-use stored::{stored, stored_each};
+use stored::{ReadFrom, stored, stored_each};
 
 // Exit status 0, or 3 where there is no store, and why.
 fn status_of(rt: &HostRuntime, refusal: Option<StoreRefusal>) -> Result<ExitCode> {

@@ -1,14 +1,19 @@
 //! A hub over a store, of any register.
-ghost use Rattle.std.specs.Prelude.{◌≡◌, false, OnOk};
+ghost use Rattle.std.specs.Prelude.{◌≡◌, false, IfOk, OnOk};
+ghost use Rattle.gaz_keeper.specs.Keeper.{IsNotOpen};
+ghost use Rattle.gaz_store.specs.Store.{progress_of};
 
 use crate::at_file::{Work, over_file};
 use crate::playing::{MOST, register_in};
 use anyhow::{Context, Result, ensure};
-use gaz_exchange::{Served, Stopped};
+use gaz_exchange::converse;
+use gaz_hub::Hub;
+use gaz_keeper::Inbox;
+use gaz_loaded::Listed;
 use gaz_register::Register;
 use gaz_shelf::Seed;
-use gaz_store::StoreRefusal;
-use gaz_stored::{HandedBack, ReadFrom, answer_new, answer_opened};
+use gaz_store::{Store, StoreRefusal};
+use gaz_stored::mirrored;
 use sqlite::{Alter, Connection};
 use std::alloc::Global;
 use std::io::{BufWriter, Read, Write};
@@ -20,6 +25,15 @@ const PAGE: u64 = 4096;
 const FEWEST: u64 = 2_000;
 
 const MOST_PAGES: u64 = 64_000;
+
+/// Where what is asked of a store is read.
+#[derive(Clone, Copy)]
+pub enum ReadFrom {
+    /// From memory, where all that it keeps is put first.
+    Memory,
+    /// From its tables.
+    Tables,
+}
 
 /// How a store begins.
 #[derive(Clone, Copy)]
@@ -36,33 +50,66 @@ pub fn rests<S: Alter>(conn: &Connection<S>) -> Result<()>
     Ok(())
 }
 
-// Answers the requests of a reader over a store behind a connection.
-fn answer<S: Alter + Drop, R: Read, W: Write>(
+// Settles, if that can be, and answers the requests of a reader at a hub.
+fn converse_at<K: Inbox + Drop, R: Read, W: Write>(
     alloc: Global,
-    conn: Connection<S>,
+    hub: &mut Hub<K>,
+    r: &mut R,
+    w: &mut W,
+) -> Result<()>
+    requires { IsNotOpen (K.seen hub.old.keeper).progress }
+{
+    let _settled = hub.settle();
+    ensure!(
+        converse(alloc, r, w, hub, MOST).is_ok(),
+        "the stream failed"
+    );
+    Ok(())
+}
+
+// Answers the requests of a reader over a keeper, which is left.
+fn converse_over<K: Listed + Drop, R: Read, W: Write>(
+    alloc: Global,
+    keeper: K,
     register: Register,
-    beginning: Beginning,
     read_from: ReadFrom,
     r: &mut R,
     w: &mut W,
-) -> Result<HandedBack<S>> {
+) -> Result<K>
+    requires { IsNotOpen (K.seen keeper).progress }
+{
+    match read_from {
+        ReadFrom::Memory => {
+            let mut hub = mirrored(alloc, Seed::of(1), register, keeper);
+            converse_at(alloc, &mut hub, r, w)?;
+            let (_, mirror) = hub.into_parts();
+            let (keeper, _) = mirror.into_parts();
+            Ok(keeper)
+        }
+        ReadFrom::Tables => {
+            let mut hub = Hub::new(alloc, register, keeper);
+            converse_at(alloc, &mut hub, r, w)?;
+            let (_, keeper) = hub.into_parts();
+            Ok(keeper)
+        }
+    }
+}
+
+// The store of a register behind a connection, or why there is none.
+fn store_in<S: Alter + Drop>(
+    alloc: Global,
+    conn: Connection<S>,
+    register: &Register,
+    beginning: Beginning,
+) -> Result<Result<Store<S>, (Connection<S>, StoreRefusal)>>
+    ensures { IfOk result (λ found. IfOk found (λ store. IsNotOpen (progress_of store.judging))) }
+{
     rests(&conn)?;
     let seed = Seed::of(1);
     Ok(match beginning {
-        Beginning::Made => answer_new(alloc, seed, conn, register, read_from, r, w, MOST),
-        Beginning::Opened => answer_opened(alloc, seed, conn, register, read_from, r, w, MOST),
+        Beginning::Made => Store::create(alloc, seed, conn, register),
+        Beginning::Opened => Store::open(alloc, seed, conn, register),
     })
-}
-
-// Why no conversation was held, or none; an error where its stream failed.
-fn refusal_of(held: Result<Result<Served, Stopped>, StoreRefusal>) -> Result<Option<StoreRefusal>> {
-    match held {
-        Ok(ended) => {
-            ensure!(ended.is_ok(), "the stream failed");
-            Ok(None)
-        }
-        Err(refusal) => Ok(Some(refusal)),
-    }
 }
 
 // How the store in a file begins: it is opened where a file is there.
@@ -112,8 +159,14 @@ impl<R: Read, W: Write> Work for Talk<'_, R, W> {
             w,
         } = self;
         conn.set_step_limit(steps);
-        let left = answer(rt.alloc(), conn, register, beginning, read_from, r, w)?;
-        Ok((Some(left.conn), refusal_of(left.held)?))
+        let alloc = rt.alloc();
+        match store_in(alloc, conn, &register, beginning)? {
+            Ok(store) => {
+                let store = converse_over(alloc, store, register, read_from, r, w)?;
+                Ok((Some(store.into_connection()), None))
+            }
+            Err((conn, refusal)) => Ok((Some(conn), Some(refusal))),
+        }
     }
 }
 

@@ -1,14 +1,14 @@
 -- What is told of a hub that remembered nothing at first is told of its keeper.
-use Rattle.std.proofs.Common.{◌≡◌, ℕ, List, [], ◌∷◌, subst}
-use Rattle.std.specs.Prelude.{Option, None, Result}
-use Rattle.gaz_exchange.specs.Conversing.{Conversation, Transfer}
-use Rattle.gaz_exchange.specs.declared.conversation.Served.{Served}
-use Rattle.gaz_exchange.specs.declared.conversation.Stopped.{Stopped}
-use Rattle.gaz_hub.specs.Hubs.{Runs, Steps, door_of}
+use Rattle.std.proofs.Common.{◌≡◌, ◌∙◌, List, [], ◌∷◌, ap, refl, subst, sym}
+use Rattle.std.specs.Prelude.{Option, None, Result, Ok, Err}
+use Rattle.gaz_hub.specs.Hubs.{MeetsDoor, Runs, Steps, door_of}
 use Rattle.gaz_hub.specs.Seen.{hub_seen}
 use Rattle.gaz_hub.specs.Step.{Command, Door, Response}
 use Rattle.gaz_hub.specs.declared.hub.Hub.{Hub}
-use Rattle.gaz_hub.proofs.HubRuns.{runs_one}
+use Rattle.gaz_hub.proofs.HubRuns.{runs_none, runs_one}
+use Rattle.gaz_commands.specs.Obeying.{Obeys}
+use Rattle.gaz_commands.specs.declared.said.Said.{Said}
+use Rattle.gaz_stored.specs.Ways.{Asks, Goes}
 use Rattle.gaz_stored.proofs.Filled.{over_parts}
 use Rattle.gaz_hub.specs.Waiting.{Remembered, remembering}
 use Rattle.gaz_register.specs.Registers.{RegisterValue}
@@ -32,26 +32,6 @@ module _ (d : Door) (register other : RegisterValue) (waiters : Option Remembere
             record { ever = s.ever; now = s.now; answered = s.answered; received = s.received; whole = s.whole };
       }
 
-  pub alone : (most : ℕ) (through : Transfer) (result : Result Served Stopped) (before : Option Remembered) → before ≡ None
-      → Conversation d most through (remembering register before a) (remembering other waiters c) result → Conversation d most through a c result
-  alone most through result before fresh told =
-      let l = subst (λ (x : Option Remembered). Conversation d most through (remembering register x a) (remembering other waiters c) result) fresh told in
-      record {
-        read = l.read;
-        written = l.written;
-        exchanges = l.exchanges;
-        rest = l.rest;
-        consumed = l.consumed;
-        appended = l.appended;
-        comes = l.comes;
-        routes = l.routes;
-        runs = runs_alone _ _ l.runs;
-        answers = λ stood fine. l.answers (record { stands = ((stood.stands.0, tt), stood.stands.1); partial = stood.partial }) fine;
-        answers_ever = λ stood t. l.answers_ever (record { stands = ((stood.stands.0, tt), stood.stands.1); partial = stood.partial }) t;
-        comes_to = l.comes_to;
-        answers_all = l.answers_all;
-      }
-
 -- a hub over a keeper made a step, when it remembered nothing
 pub steps_alone : {K : Type 0} (seen : K → Seen) (register : RegisterValue) (hub new : Hub K) (first last : K) (command : Command) (response : Response) → hub.register ≡ register → hub.keeper ≡ first
     → hub.waiters ≡ None → new.keeper ≡ last → Steps (door_of hub.register) (hub_seen seen hub) (hub_seen seen new) command response
@@ -61,3 +41,29 @@ steps_alone seen register hub new first last command response e f fresh back ste
     let over = over_parts seen (λ r s. Runs (door_of r) s (hub_seen seen new) (command ∷ []) (response ∷ [])) hub register first e f fresh one in
     subst (λ k. Runs (door_of register) (seen first) (seen k) (command ∷ []) (response ∷ [])) back
     (runs_alone (door_of register) register new.register new.waiters (seen first) (seen new.keeper) (command ∷ []) (response ∷ []) over)
+
+-- what a call did to a hub that remembered nothing, it did over its keeper
+pub asks_with : {K : Type 0} (seen : K → Seen) (register : RegisterValue) (asks : Result Command Said) (hub new : Hub K) (first last : K) (said : Said) → hub.register ≡ register → hub.keeper ≡ first → hub.waiters ≡ None
+    → new.keeper ≡ last → Obeys seen asks hub new said → Goes seen register (Asks register asks said) first last
+asks_with {K} seen register (Ok command) hub new first last said e f fresh back told = record {
+  commands = command ∷ [];
+  responses = told.response ∷ [];
+  went = record {
+    response = told.response;
+    asked = refl;
+    told = refl;
+    says = told.said_is;
+    door = subst (λ (t : RegisterValue × K × K). MeetsDoor (door_of t.0) t.1 t.2 command told.response) (λ i. (e i, f i, back i)) told.door;
+  };
+  harm = λ fine. subst (λ k. (seen k).unharmed) f (told.steps.harm (subst (λ k. (seen k).unharmed) (sym back) fine));
+  runs = λ bare can. steps_alone seen register hub new first last command told.response e f fresh back told.steps;
+}
+asks_with {K} seen register (Err at_once) hub new first last said e f fresh back told =
+    let same : last ≡ first = sym back ∙ ap (λ (h : Hub K). h.keeper) told.1 ∙ f in
+    record {
+      commands = [];
+      responses = [];
+      went = (told.0, record { still = same; unasked = refl; untold = refl });
+      harm = subst (λ (k : K). (seen k).unharmed) same;
+      runs = λ bare can. subst (λ (t : K). Runs (door_of register) (seen first) (seen t) [] []) (sym same) (runs_none (door_of register) (seen first));
+    }

@@ -1,4 +1,4 @@
--- A conversation over a store with all of it at hand is one over the store.
+-- What a hub does over a mirror of a keeper it does over the keeper.
 use Rattle.std.proofs.Common.{◌≡◌, ◌∙◌, ◌≤◌, ℕ, inl, List, [], refl, ap, subst, sym, arith, true≢false}
 use Rattle.std.specs.Prelude.{None, Option, Some}
 use Rattle.sqlite.specs.Effect.{Database}
@@ -17,16 +17,24 @@ use Rattle.gaz_store.specs.Store.{progress_of, seen_in, working_of}
 use Rattle.gaz_store.specs.declared.progress.Judging.{Judging}
 use Rattle.gaz_store.specs.declared.progress.Judging.TheVariants.{Idle, Open, Broken}
 use Rattle.gaz_store.specs.declared.store.Store.{Store}
-use Rattle.gaz_hub.specs.Hubs.{Runs, state_of}
+use Rattle.gaz_hub.specs.Hubs.{Runs, door_of, state_of}
 use Rattle.gaz_hub.specs.Laws.{StandsForRun}
+use Rattle.gaz_hub.specs.Seen.{hub_seen}
 use Rattle.gaz_hub.specs.Step.{Command, Door, HubState, Response}
+use Rattle.gaz_hub.specs.declared.hub.Hub.{Hub}
 use Rattle.gaz_hub.proofs.Advancing.{may_keep}
 use Rattle.gaz_hub.proofs.HubRuns.{runs_still, runs_then}
+use Rattle.gaz_mirror.specs.Mirrored.{seen_mirrored}
 use Rattle.gaz_mirror.specs.Mirroring.{content_of, mirrored, progress_with, stands_below}
 use Rattle.gaz_mirror.specs.declared.gathered.Gathered.{Gathered}
 use Rattle.gaz_loaded.specs.Files.{OnlyReads}
+use Rattle.gaz_register.specs.Registers.{RegisterValue}
+use Rattle.gaz_keeper.specs.declared.shelf.Shelf as shelf
+use Rattle.gaz_shelf.specs.Mem.{seen_in as memory}
 use Rattle.gaz_stored.specs.Filling.{AreVolumes, CanBeMirrored, RestsBare}
-use Rattle.gaz_loaded.proofs.Reading.{reads_nothing}
+use Rattle.gaz_stored.specs.Ways.{MirrorOf}
+use Rattle.gaz_stored.proofs.Alone.{runs_alone}
+use Rattle.gaz_stored.proofs.Filled.{over_parts}
 
 -- ---- what a store is mirrored by
 
@@ -51,10 +59,6 @@ can_mirror {S} {N} {g} text d t run =
     let db = (state g t.tables.conn).now in
     record { run = run; volumes = volumes db (working_of db t.judging) run.stands.0.tables.kept }
 
--- where nothing is put at hand, nothing is even read
-pub reads_given : {K : Type 0} (seen : K → Seen) (given kept : K) → kept ≡ given → OnlyReads (seen given) (seen kept)
-reads_given {K} seen given kept same = subst (λ (t : K). OnlyReads (seen given) (seen t)) (sym same) (reads_nothing (seen given))
-
 -- ---- runs
 
 not_open : (old new : Progress) → IsLeft old new → IsNotOpen old → IsNotOpen new
@@ -64,7 +68,7 @@ not_open keeper.Broken new left idle = left
 
 module _ {U : Type 0} (seen : U → Seen) (d : Door) (a lower last : Seen) (upper kept : Option U) where
   -- nothing was asked while all was put at hand
-  begins : OnlyReads a lower → (a.unharmed → StandsForRun d a) → (StandsForRun d a → lower.unharmed → StandsForRun d (mirrored seen lower upper None)) → Runs d a (mirrored seen lower upper None) [] []
+  begins : OnlyReads a lower → (a.unharmed → CanBeMirrored d a) → (CanBeMirrored d a → lower.unharmed → StandsForRun d (mirrored seen lower upper None)) → Runs d a (mirrored seen lower upper None) [] []
   begins reads was mirrors =
       let keeps = reads.keeps in
       record {
@@ -114,8 +118,28 @@ module _ {U : Type 0} (seen : U → Seen) (d : Door) (a lower last : Seen) (uppe
     stops = λ sound. record { ever = λ k l. inl l; now = λ fine k l. inl (l, same_state kept gathered); answered = refl; received = λ k l. tt; whole = λ all. all };
   }
 
-  pub runs_below : (held gathered : Option Gathered) (commands : List Command) (responses : List Response) → OnlyReads a lower → (a.unharmed → StandsForRun d a) → IsNotOpen (mirrored seen lower upper held).progress
-      → (StandsForRun d a → lower.unharmed → StandsForRun d (mirrored seen lower upper held)) → Runs d (mirrored seen lower upper held) (mirrored seen last kept gathered) commands responses → Runs d a last commands responses
+  runs_below : (held gathered : Option Gathered) (commands : List Command) (responses : List Response) → OnlyReads a lower → (a.unharmed → CanBeMirrored d a) → IsNotOpen (mirrored seen lower upper held).progress
+      → (CanBeMirrored d a → lower.unharmed → StandsForRun d (mirrored seen lower upper held)) → Runs d (mirrored seen lower upper held) (mirrored seen last kept gathered) commands responses → Runs d a last commands responses
   runs_below None gathered commands responses reads was idle mirrors runs =
       runs_still d a (mirrored seen last kept gathered) last commands responses (runs_then d a (mirrored seen lower upper None) (mirrored seen last kept gathered) [] commands [] responses (begins reads was mirrors) runs) (ends gathered)
   runs_below (Some g) gathered commands responses reads was idle mirrors runs = absurd (idle g.code refl)
+
+-- what a hub over a mirror that remembered nothing made a run of is a run of one over the keeper
+pub over_keeper : {K : Type 0} (kind : shelf.Ghosts K) (register : RegisterValue) (first last : K) (begun left : Hub (MirrorOf kind)) (commands : List Command) (responses : List Response) → begun.register ≡ register
+    → begun.waiters ≡ None → OnlyReads (kind.seen first) (kind.seen begun.keeper.lower) → IsNotOpen (seen_mirrored begun.keeper).progress
+    → (RestsBare kind.seen → CanBeMirrored (door_of register) (kind.seen first) → (seen_mirrored begun.keeper).unharmed → StandsForRun (door_of register) (seen_mirrored begun.keeper))
+    → left.keeper.lower ≡ last → Runs (door_of begun.register) (hub_seen seen_mirrored begun) (hub_seen seen_mirrored left) commands responses
+    → RestsBare kind.seen → ((kind.seen first).unharmed → CanBeMirrored (door_of register) (kind.seen first)) → Runs (door_of register) (kind.seen first) (kind.seen last) commands responses
+over_keeper kind register first last begun left commands responses mine fresh reads idle stands back runs bare can =
+    let d = door_of register in
+    let m = begun.keeper in
+    let n = left.keeper in
+    let over = over_parts seen_mirrored (λ r s. Runs (door_of r) s (hub_seen seen_mirrored left) commands responses) begun register m mine refl fresh runs in
+    subst (λ t. Runs d (kind.seen first) (kind.seen t) commands responses) back
+    (runs_below memory d (kind.seen first) (kind.seen m.lower) (kind.seen n.lower) m.upper n.upper m.gathered n.gathered commands responses reads can idle (stands bare)
+    (runs_alone d register left.register left.waiters (seen_mirrored m) (seen_mirrored n) commands responses over))
+
+-- the keeper that is left is that of the hub that is taken apart
+pub left_below : {K : Type 0} (kind : shelf.Ghosts K) (register : RegisterValue) (last : MirrorOf kind) (parts : RegisterValue × MirrorOf kind) (left : K) → parts ≡ (register, last) → left ≡ parts.1.lower
+    → last.lower ≡ left
+left_below {K} kind register last parts left same below = sym (below ∙ ap (λ (p : RegisterValue × MirrorOf kind). p.1.lower) same)

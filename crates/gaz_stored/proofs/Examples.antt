@@ -1,5 +1,5 @@
 -- What the definitions come to on worked examples.
-use Rattle.std.proofs.Common.{◌≡◌, [], Bool, true, false, None, Some, codes, inl, inr, refl, sym, ap, subst, true≢false}
+use Rattle.std.proofs.Common.{◌≡◌, [], None, Some, codes, inl, inr, refl, sym, ap, subst}
 use Rattle.std.specs.FinMap as map
 use Rattle.gaz_kept.proofs.Examples.{worked_examples_hold}
 use Rattle.gaz_kept.specs.Contents.{board_in}
@@ -11,7 +11,7 @@ use Rattle.gaz_tables.proofs.Four.{received_tree, version2_tree}
 use Rattle.gaz_tables.specs.Schema.{received, version2}
 use Rattle.gaz_tables.specs.Tables.{rows_of}
 use Rattle.gaz_views.specs.declared.verdict.Verdict.TheVariants.{Rejected}
-use Rattle.gaz_stored.specs.Examples.{WorkedExamples, WorkedHub, WorkedOpenings, WorkedTalks, WorkedTurns, worked_database, worked_hub}
+use Rattle.gaz_stored.specs.Examples.{WorkedExamples, WorkedHub, WorkedOpenings, WorkedWays, worked_database, worked_hub}
 
 its_files : rows_of worked_database received ≡ six_files
 its_files = ap worked_database.trees received_tree
@@ -32,16 +32,6 @@ hubs_hold = record {
   rejected = on_its_board (λ board. verdict_on board 1001 3 ≡ Some (Rejected 5 21)) worked_examples_hold.on_boards.verdict;
 }
 
-talks_hold : WorkedTalks
-talks_hold = record { in_turn = refl; after = refl; after_none = refl }
-
--- no custodian may go
-gone : ¬ ◌≡◌ {A = Bool} false true
-gone e = absurd (true≢false (sym e))
-
-turns_hold : WorkedTurns
-turns_hold = record { last = refl; after = refl; none = tt; shrinks = λ chain. gone (chain.0.custodians 1004 refl) }
-
 openings_hold : WorkedOpenings
 openings_hold = record {
   opens = inl refl;
@@ -50,5 +40,14 @@ openings_hold = record {
   another = λ h. elim h [ inl is ↦ absurd (cc) | inr is ↦ absurd (cc) ];
 }
 
+ways_hold : WorkedWays
+ways_hold = record {
+  at_once = λ said. (refl, record { still = refl; unasked = refl; untold = refl });
+  one_asked = λ said it. let e = it.1.unasked in absurd (cc);
+  none_asked = λ said it. let e = it.asked in absurd (cc);
+  nobody = (refl, record { still = refl; unasked = refl; untold = refl });
+  somebody = λ it. let e = it.0 in absurd (cc);
+}
+
 pub stored_examples_hold : WorkedExamples
-stored_examples_hold = record { on_hubs = hubs_hold; on_talks = talks_hold; on_turns = turns_hold; on_openings = openings_hold }
+stored_examples_hold = record { on_hubs = hubs_hold; on_openings = openings_hold; on_ways = ways_hold }

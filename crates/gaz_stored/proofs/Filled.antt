@@ -64,6 +64,3 @@ over_parts {K} seen P hub reg keeper e f g = subst (λ (t : RegisterValue × K �
 pub of_made : {L K : Type 0} (low : L → Seen) (seen : K → Seen) (reg : RegisterValue) (x y : L) (u v : Option K) (gathered : Option Gathered) → x ≡ y → u ≡ v → gathered ≡ None
     → ((low y).unharmed → StandsForRun (door_of reg) (mirrored seen (low y) v None)) → (low x).unharmed → StandsForRun (door_of reg) (mirrored seen (low x) u gathered)
 of_made {L} {K} low seen reg x y u v gathered e f none = subst (λ (t : L × Option K × Option Gathered). (low t.0).unharmed → StandsForRun (door_of reg) (mirrored seen (low t.0) t.1 t.2)) (λ i. (sym e i, sym f i, sym none i))
-
-pub of_lower : {L : Type 0} (low : L → Seen) (reg was : RegisterValue) (x y : L) → was ≡ reg → x ≡ y → CanBeMirrored (door_of reg) (low y) → CanBeMirrored (door_of was) (low x)
-of_lower {L} low reg was x y e f = subst (λ (t : RegisterValue × L). CanBeMirrored (door_of t.0) (low t.1)) (λ i. (sym e i, sym f i))

@@ -1,20 +1,16 @@
 mod Alone
-mod Parts
-mod Mirrors
 mod Below
-mod Going
-mod Stopping
-mod Using
-mod Answered
-mod Calling
-mod Connecting
-mod Chaining
+pub mod Going
+mod Beginning
+pub mod Using
+mod Stops
+pub mod Calling
+mod CallExamples
 mod Examples
 pub mod Meetings
 mod Serving
 pub mod ExtendsOpened
 pub mod Moving
-pub mod GrownChains
 pub mod Reopening
 mod Alike
 pub mod Filled

@@ -26,12 +26,14 @@ migrated_stands register old new was mine moves =
     let hub = ap state_of s.content in
     record {
       hub = hub;
-      stands = record {
-        kept = s.kept;
-        known = subst (λ (h : HubState). AreKnown (door_of register) h.received) (sym hub) was.known;
-        partial = subst (λ (h : HubState). IsPartial (blocks_of register) h.received h.board) (sym hub) was.partial;
+      store = record {
+        stands = record {
+          kept = s.kept;
+          known = subst (λ (h : HubState). AreKnown (door_of register) h.received) (sym hub) was.known;
+          partial = subst (λ (h : HubState). IsPartial (blocks_of register) h.received h.board) (sym hub) was.partial;
+        };
+        whose = migration_stands.is_of text text old new was.kept.tables mine moves;
       };
-      whose = migration_stands.is_of text text old new was.kept.tables mine moves;
     }
 
 -- a store that is told as current was none of schema 1

@@ -8,16 +8,13 @@ use Rattle.gaz_register.specs.Registers.{RegisterValue}
 use Rattle.gaz_register.specs.Texts.{register_text}
 use Rattle.gaz_tables.specs.Metas.{register_of}
 use Rattle.gaz_tables.specs.Schema.{meta}
-use Rattle.gaz_tables.specs.Stores.{HasTables}
 use Rattle.gaz_tables.specs.Tables.{rows_of}
 use Rattle.gaz_kept.specs.Opening.{IsJudged, IsOf}
 use Rattle.gaz_kept.specs.declared.refusal.StoreRefusal.{StoreRefusal}
 use Rattle.gaz_kept.specs.declared.refusal.StoreRefusal.TheVariants.{BadSchema, Fault, OtherRegister}
-use Rattle.gaz_store.specs.Growing.{register_then}
 use Rattle.gaz_stored.specs.Reopening.{OpensAgain, OpensOrFails, OpensThen}
-
-same_row : (r s : Row) (rows : List Row) → rows ≡ r ∷ [] → rows ≡ s ∷ [] → r ≡ s
-same_row r s rows e f = let both : r ∷ [] ≡ s ∷ [] = sym e ∙ f in cc
+use Rattle.gaz_stored.specs.Runs.{IsStoreOf}
+use Rattle.gaz_stored.proofs.Calling.{same_row}
 
 -- rows of this register are told of so
 judged : (text : List ℕ) (rows : List Row) → IsOf text rows → (answer : Result (Unit {0}) StoreRefusal) → IsJudged text rows answer → OpensOrFails answer
@@ -28,18 +25,8 @@ judged text rows whose (Err OtherRegister) is =
 judged text rows whose (Err Fault) is = inr refl
 
 module _ {S : Type 0} (g : Ghosts S) where
-  pub opens : (register : RegisterValue) (conn next : Held S) → HasTables (state g conn).now → IsOf (register_text register) (rows_of (state g conn).now meta) → OpensThen g register conn next
-  opens register conn next has whose answer clean judges = judged (register_text register) (rows_of (state g conn).now meta) whose answer (judges clean has)
+  pub opens : (register : RegisterValue) (conn next : Held S) → IsStoreOf register (state g conn).now → OpensThen g register conn next
+  opens register conn next store answer clean judges = judged (register_text register) (rows_of (state g conn).now meta) store.whose answer (judges clean store.stands.kept.tables)
 
   pub opens_again : OpensAgain g
-  opens_again = record {
-    used = λ register first before after next commands responses uses stood fine.
-        opens register after next (uses.goes_on fine stood).stands.kept.tables (uses.whose fine stood);
-    made = λ register most through before after next ended answers room fine.
-        opens register after next (answers.goes_on fine room).stands.kept.tables (answers.whose fine room);
-    grown = λ register grown before after next told extends stood fine.
-        opens (register_then register grown told) after next (extends.stays fine stood).stands.kept.tables (extends.whose fine stood);
-    left = λ register before commands responses after conn next finds may.
-        let it = finds (state g conn).now may in
-        opens register conn next it.stands.kept.tables it.whose;
-  }
+  opens_again = record { store = opens; left = λ register before commands responses after conn next finds may. opens register conn next (finds (state g conn).now may).store }

@@ -1,22 +1,24 @@
 -- Worked examples, computed from the definitions.
-use Rattle.std.specs.Prelude.{◌≡◌, codes, [], ◌∷◌, map as each, Some, None, Ok, Err}
+use Rattle.std.specs.Prelude.{◌≡◌, codes, [], ◌∷◌, Some, None, Ok, Err}
 use Rattle.std.specs.FinMap as map
 use Rattle.sqlite.specs.Effect.{Database}
 use Rattle.sqlite_trees.specs.Tree.{no_trees, with_tree}
-use Rattle.gaz_register.specs.Registers.{CustodianValue}
 use Rattle.gaz_views.specs.declared.verdict.Verdict.TheVariants.{Rejected}
 use Rattle.gaz_keeper.specs.Board.{reached, verdict_on}
+use Rattle.gaz_keeper.specs.Examples.{kept_safe}
+use Rattle.gaz_keeper.specs.Keeper.{empty_content}
+use Rattle.gaz_keeper.specs.declared.shelf.Shelf.{Ghosts}
 use Rattle.gaz_tables.specs.Schema.{receiveds, store_schema, versions}
 use Rattle.gaz_kept.specs.Examples.{four_rows, six_files}
 use Rattle.gaz_kept.specs.declared.refusal.StoreRefusal.TheVariants.{BadSchema, Fault}
 use Rattle.gaz_kept.specs.declared.refusal.StoreRefusal.TheVariants.{OtherRegister}
-use Rattle.gaz_hub.specs.Growth.{last_register}
-use Rattle.gaz_hub.specs.Step.{Command, HubState, Pose, Submit}
-use Rattle.gaz_hub.specs.declared.question.Question.TheVariants.{Settle, Stand}
-use Rattle.gaz_stored.specs.Chains.{Talk, after_all, all_commands}
-use Rattle.gaz_stored.specs.GrownChains.{GrownChain, Turn, after_turns, period_of}
+use Rattle.gaz_hub.specs.Step.{Command, HubState, Submit}
+use Rattle.gaz_commands.specs.declared.said.Said.{Said}
+use Rattle.gaz_stored.specs.Meetings.{Missed}
 use Rattle.gaz_stored.specs.Reopening.{OpensOrFails}
 use Rattle.gaz_stored.specs.Runs.{hub_in}
+use Rattle.gaz_stored.specs.Ways.{Asks, Attends}
+use Rattle.gaz_stored.specs.declared.attending.Unserved.TheVariants.{NoPort}
 
 -- a store without a register, and one where four volumes of 1001 are judged and its sixth is held
 abbrev pub bare_database : Database
@@ -38,44 +40,9 @@ pub record WorkedHub : Type 0 where
   pub reached : reached worked_hub.board 1001 ≡ 4
   pub rejected : verdict_on worked_hub.board 1001 3 ≡ Some (Rejected 5 21)
 
--- 1001 sends its first volume, and asks in a later conversation how far it is judged
+-- 1001 sends its first volume
 abbrev pub sends : Command
 sends = Submit 1001 1 (codes "first")
-
-abbrev pub asks : Command
-asks = Pose (Stand 1001)
-
-abbrev pub first_talk : Talk
-first_talk = record { commands = sends ∷ Pose Settle ∷ []; responses = []; after = bare_database }
-
-abbrev pub second_talk : Talk
-second_talk = record { commands = asks ∷ []; responses = []; after = worked_database }
-
-pub record WorkedTalks : Type 0 where
-  pub in_turn : all_commands (first_talk ∷ second_talk ∷ []) ≡ sends ∷ Pose Settle ∷ asks ∷ []
-  pub after : after_all bare_database (first_talk ∷ second_talk ∷ []) ≡ worked_database
-  pub after_none : after_all bare_database [] ≡ bare_database
-
--- two custodians, and conversations under the register of the first and of both
-abbrev pub county : CustodianValue
-county = record { code = 1001; name = codes "County"; own = record { uprn = []; usrn = [] } }
-
-abbrev pub town : CustodianValue
-town = record { code = 1004; name = codes "Town"; own = record { uprn = []; usrn = [] } }
-
-abbrev pub turn_of_county : Turn
-turn_of_county = record { register = county ∷ []; talk = first_talk }
-
-abbrev pub turn_of_both : Turn
-turn_of_both = record { register = county ∷ town ∷ []; talk = second_talk }
-
-pub record WorkedTurns : Type 0 where
-  pub last : last_register (county ∷ []) (each period_of (turn_of_county ∷ turn_of_both ∷ []))
-      ≡ county ∷ town ∷ []
-  pub after : after_turns bare_database (turn_of_county ∷ turn_of_both ∷ []) ≡ worked_database
-  pub none : GrownChain (county ∷ []) worked_hub []
-  -- a custodian is gone
-  pub shrinks : ¬ GrownChain (county ∷ town ∷ []) worked_hub (turn_of_county ∷ [])
 
 pub record WorkedOpenings : Type 0 where
   pub opens : OpensOrFails (Ok tt)
@@ -83,8 +50,19 @@ pub record WorkedOpenings : Type 0 where
   pub no_store : ¬ OpensOrFails (Err BadSchema)
   pub another : ¬ OpensOrFails (Err OtherRegister)
 
+abbrev pub no_keeper : Ghosts (Unit {0})
+no_keeper = record { seen = λ k. kept_safe empty_content }
+
+-- over a keeper that is nothing: what is said at once asks nothing, a command that is asked is
+-- among the commands, and nobody comes where there is no port
+pub record WorkedWays : Type 0 where
+  pub at_once : (said : Said) → Asks {K = Unit {0}} [] (Err said) said tt tt [] []
+  pub one_asked : (said : Said) → ¬ Asks {K = Unit {0}} [] (Err said) said tt tt (sends ∷ []) []
+  pub none_asked : (said : Said) → ¬ Asks {K = Unit {0}} [] (Ok sends) said tt tt [] []
+  pub nobody : Attends no_keeper [] 1 (Err NoPort) [] tt tt [] []
+  pub somebody : ¬ Attends no_keeper [] 1 (Err NoPort) (Missed ∷ []) tt tt [] []
+
 pub record WorkedExamples : Type 0 where
   pub on_hubs : WorkedHub
-  pub on_talks : WorkedTalks
-  pub on_turns : WorkedTurns
   pub on_openings : WorkedOpenings
+  pub on_ways : WorkedWays

@@ -1,5 +1,4 @@
 pub mod Runs
-pub mod Chains
 pub mod Stopping
 pub mod Using
 pub mod Answering
@@ -9,9 +8,10 @@ pub mod Serving
 pub mod Asking
 pub mod Attending
 pub mod Extending
-pub mod Keepers
+pub mod Ways
 pub mod Migrating
-pub mod GrownChains
+pub mod Calls
+pub mod CallExamples
 pub mod Reopening
 pub mod Filling
 pub mod FillingExamples

@@ -1,5 +1,5 @@
 -- A store of schema 1 behind a connection, and the store that is made of it.
-use Rattle.std.specs.Prelude.{◌≡◌, ◌⊎◌, Bool, true, false, Ok}
+use Rattle.std.specs.Prelude.{◌≡◌, ◌⊎◌, Bool, true, false, Result, Ok, Err, IfErr}
 use Rattle.sqlite.specs.Effect.{Database}
 use Rattle.sqlite.specs.Held.{Held, state}
 use Rattle.sqlite.specs.State.{HasCleanDisk}
@@ -12,13 +12,16 @@ use Rattle.gaz_tables.specs.Migrating.{HasFirstTables, Migrates}
 use Rattle.gaz_tables.specs.Schema.{meta}
 use Rattle.gaz_tables.specs.Tables.{rows_of}
 use Rattle.gaz_kept.specs.Migrated.{IsFirstKept, first_content_in}
-use Rattle.gaz_kept.specs.Opening.{IsOf, Tells, schema_number}
-use Rattle.gaz_kept.specs.OpeningFirst.{IsOfFirst, TellsFirst, Untouched, has_first}
+use Rattle.gaz_kept.specs.Opening.{Judges, Tells, has_all, schema_number}
+use Rattle.gaz_kept.specs.OpeningFirst.{IsOfFirst, JudgesFirst, TellsFirst, Untouched, has_first}
+use Rattle.gaz_kept.specs.declared.refusal.StoreRefusal.{StoreRefusal}
+use Rattle.gaz_kept.specs.declared.refusal.StoreRefusal.TheVariants.{BadSchema}
 use Rattle.gaz_hub.specs.Hubs.{AreKnown, door_of, state_of}
 use Rattle.gaz_hub.specs.Standing.{IsPartial}
 use Rattle.gaz_hub.specs.Step.{HubState}
+use Rattle.gaz_store.specs.Opened.{IsRefused}
 use Rattle.gaz_store.specs.Seen.{IsUnharmed}
-use Rattle.gaz_stored.specs.Runs.{StandForRun, hub_in}
+use Rattle.gaz_stored.specs.Runs.{IsStoreOf, hub_in}
 use Rattle.gaz_stored.specs.Stopping.{LeavesItself}
 use Rattle.gaz_stored.specs.declared.migrating.Migration.{Migration}
 use Rattle.gaz_stored.specs.declared.migrating.Migration.TheVariants.{Done, Current}
@@ -34,12 +37,10 @@ pub record FirstStandForRun (register : RegisterValue) (db : Database) : Type 0 
   pub known : AreKnown (door_of register) (first_hub_in db).received
   pub partial : IsPartial (blocks_of register) (first_hub_in db).received (first_hub_in db).board
 
--- a store's tables, of this register, stand for the hub that those of schema 1 stood for, and for a
--- partial run
+-- the tables are a store's of this register, and stand for the hub that those of schema 1 stood for
 pub record StandsMoved (register : RegisterValue) (old new : Database) : Type 0 where
   pub hub : hub_in new ≡ first_hub_in old
-  pub stands : StandForRun register new
-  pub whose : IsOf (register_text register) (rows_of new meta)
+  pub store : IsStoreOf register new
 
 -- the tables of schema 1 are of this register
 abbrev pub IsFirstOf : RegisterValue → Database → Type 0
@@ -87,3 +88,16 @@ module _ {S : Type 0} (g : Ghosts S) (register : RegisterValue) (before after : 
     -- where they stood for a partial run, they go on to stand for the same hub
     pub moves : IsUnharmed (state g after) → FirstStandForRun register old
         → StandsMoved register old (state g after).now
+
+  -- why there is none of this register, where that is told: what is told of the rows of `meta`, of
+  -- either schema; the database holds what it held
+  pub record LacksBoth {T : Type 0} (told : Result T StoreRefusal) : Type 0 where
+    pub lacking : has_all old.schema ≡ false → has_first old.schema ≡ false
+        → told ≡ Err BadSchema
+    pub rows : IfErr told (λ why. Tells g before after (Err why) (register_text register))
+    pub judged : IfErr told (λ why. Judges g before after (Err why) (register_text register))
+    pub rows_first : IfErr told (λ why.
+        TellsFirst g before after (Err why) (register_text register))
+    pub judged_first : IfErr told (λ why.
+        JudgesFirst g before after (Err why) (register_text register))
+    pub refused : IfErr told (λ why. IsRefused g before after)

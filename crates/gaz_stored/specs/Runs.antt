@@ -2,9 +2,13 @@
 use Rattle.std.specs.Prelude.{List}
 use Rattle.sqlite.specs.Effect.{Database}
 use Rattle.gaz_register.specs.Registers.{RegisterValue, blocks_of}
+use Rattle.gaz_register.specs.Texts.{register_text}
+use Rattle.gaz_tables.specs.Schema.{meta}
+use Rattle.gaz_tables.specs.Tables.{rows_of}
 use Rattle.gaz_views.specs.View.{empty_view}
 use Rattle.gaz_kept.specs.Contents.{content_in}
 use Rattle.gaz_kept.specs.Kept.{IsKept}
+use Rattle.gaz_kept.specs.Opening.{IsOf}
 use Rattle.gaz_hub.specs.Answers.{AllAnswered}
 use Rattle.gaz_hub.specs.Hubs.{AreKnown, door_of, state_of}
 use Rattle.gaz_hub.specs.Runs.{AbidesFrom, Run}
@@ -21,26 +25,29 @@ pub record StandForRun (register : RegisterValue) (db : Database) : Type 0 where
   pub known : AreKnown (door_of register) (hub_in db).received
   pub partial : IsPartial (blocks_of register) (hub_in db).received (hub_in db).board
 
--- commands and responses of a hub that was this one before, whatever became of its tables
+-- and are of this register
+pub record IsStoreOf (register : RegisterValue) (db : Database) : Type 0 where
+  pub stands : StandForRun register db
+  pub whose : IsOf (register_text register) (rows_of db meta)
+
+-- commands and responses by which a hub went, step by step, from the one to the other
+pub record Went (register : RegisterValue) (before : HubState) (commands : List Command)
+    (responses : List Response) (after : HubState) : Type 0 where
+  pub run : Run (door_of register) before commands responses after
+  -- what is received is what was there and what then came first, and the board is partial over it
+  pub abides : AbidesFrom (door_of register) before commands responses after
+  -- each answer is read off the standing board of all files that were received by then
+  pub answers : AllAnswered (door_of register) before.received commands responses after.received
+
+-- they led to some hub, whatever became of its tables
 pub record WentOn (register : RegisterValue) (before : HubState) (commands : List Command)
     (responses : List Response) : Type 0 where
-  -- step by step it went to some hub
   pub last : HubState
-  pub run : Run (door_of register) before commands responses last
-  -- what is received is what was there and what then came first, and the board is partial over it
-  pub abides : AbidesFrom (door_of register) before commands responses last
-  -- each answer is read off the standing board of all files that were received by then
-  pub answers : AllAnswered (door_of register) before.received commands responses last.received
+  pub went : Went register before commands responses last
 
--- a conversation of these commands and responses, where the tables stood for this hub before
+-- they led to the hub that the tables stand for now, as a store of the register, from which the
+-- next ones can go on
 pub record GoesOn (register : RegisterValue) (before : HubState) (commands : List Command)
     (responses : List Response) (after : Database) : Type 0 where
-  -- the hub went, step by step, to the one that the tables stand for now
-  pub run : Run (door_of register) before commands responses (hub_in after)
-  -- what is received is what was there and what then came first, and the board is partial over it
-  pub abides : AbidesFrom (door_of register) before commands responses (hub_in after)
-  -- each answer is read off the standing board of all files that were received by then
-  pub answers : AllAnswered (door_of register) before.received commands responses
-      (hub_in after).received
-  -- the tables stand for that, and the next conversation can go on from them
-  pub stands : StandForRun register after
+  pub went : Went register before commands responses (hub_in after)
+  pub store : IsStoreOf register after

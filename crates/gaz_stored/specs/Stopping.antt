@@ -4,18 +4,13 @@ use Rattle.sqlite.specs.Effect.{Database, IsDatabase}
 use Rattle.sqlite.specs.State.{HasCleanDisk, State}
 use Rattle.sqlite_trees.specs.Tree.{Trees}
 use Rattle.gaz_register.specs.Registers.{RegisterValue}
-use Rattle.gaz_register.specs.Texts.{register_text}
-use Rattle.gaz_tables.specs.Schema.{meta}
-use Rattle.gaz_tables.specs.Tables.{rows_of}
-use Rattle.gaz_kept.specs.Opening.{IsOf}
 use Rattle.gaz_hub.specs.Found.{HasFilesAfter, HasFilesOf}
 use Rattle.gaz_hub.specs.Hubs.{door_of}
 use Rattle.gaz_hub.specs.Standing.{HasAllOf}
 use Rattle.gaz_hub.specs.Step.{Command, HubState, Response}
 use Rattle.gaz_hub.specs.Stops.{HasAllTold, HasReceived}
 use Rattle.gaz_store.specs.Seen.{IsUnharmed}
-use Rattle.gaz_stored.specs.Chains.{Talk, after_all}
-use Rattle.gaz_stored.specs.Runs.{StandForRun, hub_in}
+use Rattle.gaz_stored.specs.Runs.{IsStoreOf, StandForRun, hub_in}
 
 -- a sound database whose trees a stop at this moment may leave, on a disk that returned what was
 -- written
@@ -28,13 +23,11 @@ pub record MayBeLeft (s : State) (db : Database) : Type 0 where
 abbrev pub LeavesItself : State → Type 0
 LeavesItself s = (trees : Trees) → HasCleanDisk s → s.may_leave trees → trees ≡ s.now.trees
 
--- a database that was left of a conversation: its tables stand for a partial run again, as the next
--- conversation asks of them
+-- a database that was left of a conversation: it is a store of the register again, as the next
+-- conversation asks of it
 pub record IsFoundLater (register : RegisterValue) (before : HubState) (commands : List Command)
     (responses : List Response) (after : State) (db : Database) : Type 0 where
-  pub stands : StandForRun register db
-  -- they are of the register
-  pub whose : IsOf (register_text register) (rows_of db meta)
+  pub store : IsStoreOf register db
   -- of files that had been received, and that in hand at most, whatever became of the connection
   pub ever : HasFilesAfter (door_of register) before commands responses (hub_in db).received
   -- with each that one of the commands received
@@ -53,6 +46,17 @@ FindsLater register before commands responses after =
     → IsFoundLater register before commands responses after db
 
 -- ---- stopped again and again
+
+-- what the hub was asked and said in one conversation, and the database after it
+pub record Talk : Type 0 where
+  pub commands : List Command
+  pub responses : List Response
+  pub after : Database
+
+-- the database after the last of them
+abbrev pub after_all : Database → List Talk → Database
+after_all db [] = db
+after_all db (talk ∷ talks) = after_all talk.after talks
 
 -- what a stop left of a conversation that began with this hub
 pub record IsStopped (register : RegisterValue) (before : HubState) (talk : Talk) : Type 0 where

@@ -1,30 +1,29 @@
--- What a hub does over the store behind a connection, from the connection that is given to the one
--- that is handed back.
-use Rattle.std.specs.Prelude.{◌≡◌, ℕ, List, Ok}
+-- A hub that is used over the store behind a connection, from the connection that is given to the
+-- one that is handed back.
+use Rattle.std.specs.Prelude.{◌≡◌, ⊤, false, ℕ, List, Result, Ok, Err, IfErr}
+use Rattle.std.specs.declared.marker.Brand.{Brand}
 use Rattle.sqlite.specs.Held.{Held, state}
-use Rattle.sqlite.specs.State.{HasCleanDisk}
+use Rattle.sqlite.specs.State.{HasCleanDisk, State}
 use Rattle.sqlite_trees.specs.declared.store.Store.{Ghosts}
 use Rattle.gaz_register.specs.Registers.{RegisterValue}
 use Rattle.gaz_register.specs.Texts.{register_text}
-use Rattle.gaz_tables.specs.Schema.{meta}
-use Rattle.gaz_tables.specs.Tables.{rows_of}
-use Rattle.gaz_kept.specs.Opening.{IsOf, Tells}
-use Rattle.gaz_store.specs.Opened.{IsOpened}
+use Rattle.gaz_keeper.specs.declared.shelf.Shelf as keeper
+use Rattle.gaz_tables.specs.Creating.{HasRoom}
+use Rattle.gaz_kept.specs.Opening.{Judges, Tells, has_all}
+use Rattle.gaz_kept.specs.declared.refusal.StoreRefusal.{StoreRefusal}
+use Rattle.gaz_kept.specs.declared.refusal.StoreRefusal.TheVariants.{BadSchema}
+use Rattle.gaz_store.specs.Opened.{IsMade, IsOpened, IsRefused}
 use Rattle.gaz_store.specs.Seen.{IsUnharmed}
 use Rattle.gaz_store.specs.Store.{seen_in}
 use Rattle.gaz_store.specs.declared.store.Store.{Store}
-use Rattle.gaz_shelf.specs.Mem.{seen_in as memory}
-use Rattle.gaz_shelf.specs.declared.mem_shelf.MemShelf.{MemShelf}
-use Rattle.gaz_mirror.specs.declared.mirror.Mirror.{Mirror}
-use Rattle.gaz_hub.specs.Hubs.{Runs, door_of}
-use Rattle.gaz_hub.specs.Step.{Command, Response}
+use Rattle.gaz_hub.specs.Step.{Command, HubState, Response, new_hub}
 use Rattle.gaz_stored.specs.Runs.{GoesOn, StandForRun, WentOn, hub_in}
 use Rattle.gaz_stored.specs.Stopping.{FindsLater, LeavesItself}
+use Rattle.gaz_stored.specs.Ways.{Goes, Way}
 
--- a store of the register of this text, which N names, with all of it at hand or without
-abbrev pub Mirrored : {S : Type 0} → Ghosts S → Type 0 → List ℕ → Type 0
-Mirrored {S} g N text =
-    Mirror (Store S N g) MemShelf (record { seen = seen_in text }) (record { seen = memory })
+-- how a store of the register of this text is seen as a keeper
+abbrev pub seen_as : {S R : Type 0} → {g : Ghosts S} → List ℕ → keeper.Ghosts (Store S R g)
+seen_as text = record { seen = seen_in text }
 
 -- the same store, whatever names its register
 pub record IsSame {S R N : Type 0} {g : Ghosts S} (one : Store S R g) (other : Store S N g)
@@ -32,35 +31,77 @@ pub record IsSame {S R N : Type 0} {g : Ghosts S} (one : Store S R g) (other : S
   pub tables : other.tables ≡ one.tables
   pub judging : other.judging ≡ one.judging
 
--- a hub of this register over a store of the register of this text made a run of its steps, and
--- this connection is left
-pub record Goes {S N : Type 0} {g : Ghosts S} (text : List ℕ) (register : RegisterValue)
-    (first : Store S N g) (after : Held S) (commands : List Command) (responses : List Response)
+-- a store was used so as one of the register of this text, which N names, and this connection is
+-- left
+pub record UsedAs {S R : Type 0} {g : Ghosts S} (N : Type 0) (text : List ℕ)
+    (register : RegisterValue) (way : Way (Store S N g)) (given : Store S R g) (after : Held S)
     : Type 0 where
+  pub first : Store S N g
   pub last : Store S N g
-  pub runs : Runs (door_of register) (seen_in text first) (seen_in text last) commands responses
+  pub same : IsSame given first
+  pub goes : Goes (seen_in text) register way first last
   pub back : last.tables.conn ≡ after
 
--- A hub of this register did this and said that over the store that was opened so, where the disk
--- stayed clean.
-pub record Uses {S R : Type 0} (g : Ghosts S) (register : RegisterValue) (first : Store S R g)
-    (before after : Held S) (commands : List Command) (responses : List Response) : Type 0 where
-  pub opened : IsOpened (state g before) (state g first.tables.conn) (register_text register)
-      (seen_in (register_text register) first)
-  -- the only row of `meta` was of this register
-  pub told : Tells g before first.tables.conn (Ok tt) (register_text register)
-  -- where the tables stand for a partial run, the hub begins with that and goes on from it,
-  -- whatever a failure shut
-  pub went_on : HasCleanDisk (state g after) → StandForRun register (state g before).now
-      → WentOn register (hub_in (state g before).now) commands responses
-  -- and to what the tables stand for, where the connection is open in the end
-  pub goes_on : IsUnharmed (state g after) → StandForRun register (state g before).now
-      → GoesOn register (hub_in (state g before).now) commands responses (state g after).now
-  -- then the row of `meta` is of the register again
-  pub whose : IsUnharmed (state g after) → StandForRun register (state g before).now
-      → IsOf (register_text register) (rows_of (state g after).now meta)
-  -- where a stop left just these tables at the beginning and the connection is open once the store
-  -- is opened: what a stop leaves at the end
-  pub stops : IsUnharmed (state g first.tables.conn) → StandForRun register (state g before).now
-      → LeavesItself (state g before)
-      → FindsLater register (hub_in (state g before).now) commands responses (state g after)
+-- What a hub of this register did and said over tables, and what a stop leaves of it. It begins as
+-- this one where `Begins` is so of the tables, and `Itself` of what a stop leaves of them; the
+-- states are those of the connection once there is a store, and in the end.
+pub record Leads (register : RegisterValue) (Begins Itself : Type 0) (hub : HubState)
+    (opened after : State) (commands : List Command) (responses : List Response) : Type 0 where
+  -- where the connection is open in the end, it was
+  pub harm : IsUnharmed after → IsUnharmed opened
+  -- where the disk stayed clean it went on, whatever a failure shut
+  pub went_on : HasCleanDisk after → Begins → WentOn register hub commands responses
+  -- and to what the tables stand for, where the connection is open
+  pub goes_on : IsUnharmed after → Begins → GoesOn register hub commands responses after.now
+  -- where the connection is open once there is a store: what a stop leaves in the end
+  pub stops : IsUnharmed opened → Begins → Itself
+      → FindsLater register hub commands responses after
+
+-- Below, before and after are the connection that is given and the one that is handed back.
+module _ {S : Type 0} (g : Ghosts S) (register : RegisterValue) where
+  -- A hub of this register did this and said that over the store that was opened so.
+  pub record Uses {R : Type 0} (first : Store S R g) (before after : Held S)
+      (commands : List Command) (responses : List Response) : Type 0 where
+    pub opened : IsOpened (state g before) (state g first.tables.conn) (register_text register)
+        (seen_in (register_text register) first)
+    -- the only row of `meta` was of this register
+    pub told : Tells g before first.tables.conn (Ok tt) (register_text register)
+    -- where the tables stand for a partial run, the hub begins with that; for what a stop leaves in
+    -- the end, where it left just these tables at the beginning
+    pub leads : Leads register (StandForRun register (state g before).now)
+        (LeavesItself (state g before)) (hub_in (state g before).now)
+        (state g first.tables.conn) (state g after) commands responses
+
+  -- it was used so over the store that is there
+  pub record UsesOpened (way : Way (Store S Brand g)) (before after : Held S) : Type 0 where
+    pub first : Store S Brand g
+    pub last : Store S Brand g
+    pub commands : List Command
+    pub responses : List Response
+    pub went : way first last commands responses
+    pub back : last.tables.conn ≡ after
+    pub uses : Uses first before after commands responses
+
+  -- it was used so over a store that was made
+  pub record UsesMade (way : Way (Store S Brand g)) (before after : Held S) : Type 0 where
+    pub first : Store S Brand g
+    pub last : Store S Brand g
+    pub commands : List Command
+    pub responses : List Response
+    pub went : way first last commands responses
+    pub back : last.tables.conn ≡ after
+    pub made : IsMade (state g before) (state g first.tables.conn) (register_text register)
+        (seen_in (register_text register) first)
+    -- where there was room, the hub begins with nothing
+    pub leads : Leads register (HasRoom (state g before).now.schema) ⊤ new_hub
+        (state g first.tables.conn) (state g after) commands responses
+
+  -- why there is no store of this register, where that is told; the database holds what it held
+  pub record LacksStore {T : Type 0} (before after : Held S) (told : Result T StoreRefusal)
+      : Type 0 where
+    -- a table or a column is missing
+    pub lacking : has_all (state g before).now.schema ≡ false → told ≡ Err BadSchema
+    -- what is told of the rows of `meta`
+    pub rows : IfErr told (λ why. Tells g before after (Err why) (register_text register))
+    pub judged : IfErr told (λ why. Judges g before after (Err why) (register_text register))
+    pub refused : IfErr told (λ why. IsRefused g before after)

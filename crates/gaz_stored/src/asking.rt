@@ -1,35 +1,25 @@
 //! One call over the store behind a connection, which is handed back.
-ghost use Rattle.std.specs.Prelude.{◌≡◌, false, Err, IfErr, IfOk, option_map};
-ghost use Rattle.sqlite.specs.Held.{state};
-ghost use Rattle.gaz_register.specs.Texts.{register_text};
+ghost use Rattle.std.specs.Prelude.{◌≡◌, false, IfOk, option_map};
 ghost use Rattle.gaz_keeper.specs.Keeper.{IsNotOpen};
 ghost use Rattle.gaz_keeper.specs.Telling.{IsNotJudging};
-ghost use Rattle.gaz_kept.specs.Opening.{Judges, Tells, has_all};
-ghost use Rattle.gaz_store.specs.Opened.{IsRefused};
 ghost use Rattle.gaz_store.specs.Store.{progress_of};
 ghost use Rattle.gaz_commands.specs.Obeying.{Obeys};
-ghost use Rattle.gaz_stored.specs.Asking.{Asks, ObeysUnder, asked};
+ghost use Rattle.gaz_stored.specs.Asking.{asked};
+ghost use Rattle.gaz_stored.specs.Using.{LacksStore, UsedAs, UsesOpened};
+ghost use Rattle.gaz_stored.specs.Ways.{Asks};
 
+use crate::handing::HandedBack;
 use crate::keepers::ask_with;
 use gaz_commands::{Said, extract, line, status, submit};
 use gaz_hub::Hub;
 use gaz_keeper::Inbox;
 use gaz_register::Register;
 use gaz_shelf::Seed;
-use gaz_store::{OfRegister, Store, StoreRefusal};
+use gaz_store::{OfRegister, Store};
 use gaz_words::Call;
 use sqlite::{Alter, Connection};
 use std::alloc::Global;
 use std::marker::Brand;
-
-/// What is left when a call was answered.
-#[derive(Drop)]
-pub struct Asked<S: Alter + Drop> {
-    /// The connection, outside a transaction.
-    pub conn: Connection<S>,
-    /// What is said, or why there was no hub to ask.
-    pub said: Result<Said, StoreRefusal>,
-}
 
 /// What a hub is asked, and what is said.
 pub(crate) fn ask_hub<K: Inbox + Drop>(
@@ -59,8 +49,8 @@ fn ask_over<S: Alter + Drop, N: OfRegister>(
 ) -> (Connection<S>, Said)
     requires { IsNotOpen (progress_of store.judging) }
     ensures over { result.0.in_transaction ≡ false }
-    ensures asks { ObeysUnder N N.text register
-        (asked call.entry (option_map (λ bytes. bytes.now) file.entry)) store result.0 result.1 }
+    ensures asks { UsedAs N N.text register (Asks register
+        (asked call.entry (option_map (λ bytes. bytes.now) file.entry)) result.1) store result.0 }
 {
     let (left, said) = ask_with(alloc, store.named::<N>(), register, call, file);
     (left.into_connection(), said)
@@ -81,30 +71,26 @@ pub fn ask_opened<S: Alter + Drop>(
     register: Register,
     call: Call<'_>,
     file: Option<&[u8]>,
-) -> Asked<S>
+) -> HandedBack<S, Said>
     requires { conn.in_transaction ≡ false }
     ensures over { result.conn.in_transaction ≡ false }
-    ensures asks { IfOk result.said (Asks S.Store register
-        (asked call.entry (option_map (λ bytes. bytes.now) file.entry)) conn result.conn) }
-    ensures lacking { has_all (state S.Store conn).now.schema ≡ false
-        → result.said ≡ Err StoreRefusal.BadSchema }
-    ensures told { IfErr result.said (λ refusal.
-        Tells S.Store conn result.conn (Err refusal) (register_text register)) }
-    ensures judged { IfErr result.said (λ refusal.
-        Judges S.Store conn result.conn (Err refusal) (register_text register)) }
-    ensures refused { IfErr result.said (λ _. IsRefused S.Store conn result.conn) }
+    ensures asks { IfOk result.told (λ said. UsesOpened S.Store register (Asks register
+        (asked call.entry (option_map (λ bytes. bytes.now) file.entry)) said) conn result.conn) }
+    ensures lacks { LacksStore S.Store register conn result.conn result.told }
 {
     match Store::open(alloc, seed, conn, &register) {
         Ok(store) => {
             let (conn, said) = ask_over::<_, Brand>(alloc, store, register, call, file);
-            Asked {
+            HandedBack {
                 conn,
-                said: Ok(said),
+                at_hand: None,
+                told: Ok(said),
             }
         }
-        Err((conn, refusal)) => Asked {
+        Err((conn, refusal)) => HandedBack {
             conn,
-            said: Err(refusal),
+            at_hand: None,
+            told: Err(refusal),
         },
     }
 }

@@ -1,21 +1,21 @@
 //! Peers are answered over the store behind a connection, which is handed back.
-ghost use Rattle.std.specs.Prelude.{◌≡◌, false, Ok, Err, IfErr, IfOk};
-ghost use Rattle.sqlite.specs.Held.{state};
+ghost use Rattle.std.specs.Prelude.{◌≡◌, false, Ok, IfErr, IfOk};
 ghost use Rattle.gaz_register.specs.Texts.{register_text};
 ghost use Rattle.gaz_keeper.specs.Keeper.{IsNotOpen};
-ghost use Rattle.gaz_kept.specs.Opening.{Judges, Tells, has_all};
-ghost use Rattle.gaz_store.specs.Opened.{IsRefused};
 ghost use Rattle.gaz_store.specs.Store.{progress_of};
-ghost use Rattle.gaz_stored.specs.Attending.{Attends, IsAnnounced, ServesOver};
+ghost use Rattle.gaz_stored.specs.Attending.{IsAnnounced};
 ghost use Rattle.gaz_stored.specs.Meetings.{WithPeers};
 ghost use Rattle.gaz_stored.specs.Serving.{EndsEarly};
+ghost use Rattle.gaz_stored.specs.Using.{LacksStore, UsedAs, UsesOpened, seen_as};
+ghost use Rattle.gaz_stored.specs.Ways.{Attends, SettlesAndServes};
 
 use crate::connections::MOST_REQUESTS;
+use crate::handing::HandedBack;
 use crate::keepers::serve_with;
 use crate::peers::Peers;
 use gaz_register::Register;
 use gaz_shelf::{MemShelf, Seed};
-use gaz_store::{OfRegister, Store, StoreRefusal};
+use gaz_store::{OfRegister, Store};
 use sqlite::{Alter, Connection};
 use std::alloc::Global;
 use std::io::Write;
@@ -28,17 +28,6 @@ pub enum Unserved {
     NoPort,
     /// It couldn't be said where they come.
     Unwritten,
-}
-
-/// What is left when all connections were answered.
-#[derive(Drop)]
-pub struct Attended<S: Alter + Drop> {
-    /// The connection to the database, outside a transaction.
-    pub conn: Connection<S>,
-    /// What was at hand at last, to be freed, or forgotten by a program that ends.
-    pub at_hand: Option<MemShelf>,
-    /// How many connections were answered, or why there was no hub.
-    pub held: Result<Result<u64, Unserved>, StoreRefusal>,
 }
 
 // Says to which port peers come, or tells why none are answered.
@@ -55,9 +44,9 @@ fn say_where<W: Write>(port: Option<u16>, w: &mut W) -> Result<(), Unserved>
     }
 }
 
-// Answers peers over a store, seen as one of the register that `N` names, once it is settled and
-// all of it put at hand, where memory allows; the connection to it, what is at hand, and how many
-// were answered are left.
+// Answers peers over a store, seen as one of the register that `N` names, all of which is put at
+// hand, where memory allows, and settled; the connection to it, what is at hand, and how many were
+// answered are left.
 fn serve_over<S: Alter + Drop, N: OfRegister, P: Peers>(
     alloc: Global,
     seed: Seed,
@@ -69,8 +58,8 @@ fn serve_over<S: Alter + Drop, N: OfRegister, P: Peers>(
     requires { IsNotOpen (progress_of store.judging) }
     ensures over { result.0.in_transaction ≡ false }
     ensures serves { WithPeers P.meets P.Reader.Source.failed P.Writer.Sink.failed
-        (ServesOver N N.text register MOST_REQUESTS result.2 store result.0)
-        peers.old peers.new }
+        (λ met. UsedAs N N.text register (SettlesAndServes (seen_as N.text) register MOST_REQUESTS
+        result.2 met) store result.0) peers.old peers.new }
     ensures many { EndsEarly connections result.2 result.1 }
 {
     let store = store.named::<N>();
@@ -79,20 +68,17 @@ fn serve_over<S: Alter + Drop, N: OfRegister, P: Peers>(
 }
 
 /// Takes the database behind a connection outside a transaction as the store of a register, says by
-/// the writer to which port peers come, as `listening 127.0.0.1:8080`, settles the store, puts all
-/// of it at hand, where memory allows, and answers at most so many peers, one after the other, of
-/// each at most 1,000 requests. One that can't be had counts as one. It ends early behind one where
-/// nothing is at hand any more, since something failed: who opens the store again answers those
-/// that are left. Who picks keys is not to foresee the seed.
+/// the writer to which port peers come, as `listening 127.0.0.1:8080`, puts all of the store at
+/// hand, where memory allows, settles it, and answers at most so many peers, one after the other,
+/// of each at most 1,000 requests. One that can't be had counts as one. It ends early behind one
+/// where nothing is at hand any more, since something failed: who opens the store again answers
+/// those that are left. Who picks keys is not to foresee the seed.
 ///
 /// Whatever the peers do, the hub makes a run of its steps: what was received stays received. Where
 /// it is known what they say and are told, that is what the hub was asked and answered.
 ///
-/// In this order: `BadSchema` where a table of a store or a column of one is missing, or the rows
-/// of `meta` aren't just one, of id 1 and number 2; `OtherRegister` where its text isn't the
-/// register's canonical one; `Fault` where memory or the database failed, so that this isn't known;
-/// then `NoPort` where there is no port. Nothing is written then, nobody is answered, and the
-/// database holds what it held.
+/// There is no store in the cases of `ask_opened`, in its order; then comes `NoPort` where there is
+/// no port. Nothing is written then, nobody is answered, and the database holds what it held.
 pub fn serve_opened<S: Alter + Drop, P: Peers, W: Write>(
     alloc: Global,
     seed: Seed,
@@ -102,23 +88,18 @@ pub fn serve_opened<S: Alter + Drop, P: Peers, W: Write>(
     peers: &mut P,
     w: &mut W,
     connections: u64,
-) -> Attended<S>
+) -> HandedBack<S, Result<u64, Unserved>>
     requires { conn.in_transaction ≡ false }
     ensures over { result.conn.in_transaction ≡ false }
-    ensures attends { IfOk result.held (λ held.
+    ensures attends { IfOk result.told (λ held.
         WithPeers P.meets P.Reader.Source.failed P.Writer.Sink.failed
-        (Attends S.Store register MOST_REQUESTS conn result.conn held) peers.old peers.new) }
-    ensures nobody { IfErr result.held (λ _. peers.new ≡ peers.old) }
-    ensures many { IfOk result.held (λ served.
-        IfOk served (λ n. EndsEarly connections n result.at_hand)) }
-    ensures announced { IsAnnounced port (W.contents w.old) (W.contents w.new) result.held }
-    ensures lacking { has_all (state S.Store conn).now.schema ≡ false
-        → result.held ≡ Err StoreRefusal.BadSchema }
-    ensures told { IfErr result.held (λ refusal.
-        Tells S.Store conn result.conn (Err refusal) (register_text register)) }
-    ensures judged { IfErr result.held (λ refusal.
-        Judges S.Store conn result.conn (Err refusal) (register_text register)) }
-    ensures refused { IfErr result.held (λ _. IsRefused S.Store conn result.conn) }
+        (λ met. UsesOpened S.Store register (Attends (seen_as (register_text register)) register
+        MOST_REQUESTS held met) conn result.conn) peers.old peers.new) }
+    ensures nobody { IfErr result.told (λ _. peers.new ≡ peers.old) }
+    ensures many { IfOk result.told (λ held.
+        IfOk held (λ served. EndsEarly connections served result.at_hand)) }
+    ensures announced { IsAnnounced port (W.contents w.old) (W.contents w.new) result.told }
+    ensures lacks { LacksStore S.Store register conn result.conn result.told }
 {
     match Store::open(alloc, seed, conn, &register) {
         Ok(store) => match say_where(port, w) {
@@ -131,22 +112,22 @@ pub fn serve_opened<S: Alter + Drop, P: Peers, W: Write>(
                     peers,
                     connections,
                 );
-                Attended {
+                HandedBack {
                     conn,
                     at_hand,
-                    held: Ok(Ok(served)),
+                    told: Ok(Ok(served)),
                 }
             }
-            Err(why) => Attended {
+            Err(why) => HandedBack {
                 conn: store.into_connection(),
                 at_hand: None,
-                held: Ok(Err(why)),
+                told: Ok(Err(why)),
             },
         },
-        Err((conn, refusal)) => Attended {
+        Err((conn, refusal)) => HandedBack {
             conn,
             at_hand: None,
-            held: Err(refusal),
+            told: Err(refusal),
         },
     }
 }

@@ -1,4 +1,4 @@
-//! A hub over a mirror in place of one over the lower keeper alone.
+//! A hub over a mirror of a keeper.
 ghost use Rattle.std.specs.Prelude.{◌≡◌, None};
 ghost use Rattle.std.specs.Option.{ForSome};
 ghost use Rattle.gaz_keeper.specs.Keeper.{Idle};
@@ -16,6 +16,7 @@ use gaz_hub::Hub;
 use gaz_keeper::Inbox;
 use gaz_loaded::Listed;
 use gaz_mirror::Mirror;
+use gaz_register::Register;
 use gaz_shelf::{MemShelf, Seed};
 use std::alloc::Global;
 
@@ -33,28 +34,27 @@ fn join<L: Inbox + Drop>(alloc: Global, lower: L, upper: Option<MemShelf>) -> Mi
     }
 }
 
-/// A hub over a mirror of what a hub's keeper keeps, with all of it at hand, where memory allows;
-/// else over the keeper alone.
+/// A hub over a mirror of a keeper, with all of it at hand, where memory allows; else over the
+/// keeper alone.
 ///
 /// The keeper is only read, and nothing is judged: what it lists comes to hand as it is. Who picks
 /// keys is not to foresee the seed.
 pub fn mirrored<L: Listed + Drop>(
     alloc: Global,
     seed: Seed,
-    hub: Hub<L>,
+    register: Register,
+    keeper: L,
 ) -> Hub<Mirror<L, MemShelf>>
-    requires { IsNotJudging L.seen hub.keeper }
-    ensures register { result.register ≡ hub.register }
+    requires { IsNotJudging L.seen keeper }
+    ensures register { result.register ≡ register }
     ensures remembers { RemembersNothing result }
     ensures idle { IsNotJudging seen_mirrored result.keeper }
-    ensures reads { OnlyReads (L.seen hub.keeper) (L.seen result.keeper.lower) }
-    ensures stands { RestsBare L.seen
-        → CanBeMirrored (door_of hub.register) (L.seen hub.keeper)
+    ensures reads { OnlyReads (L.seen keeper) (L.seen result.keeper.lower) }
+    ensures stands { RestsBare L.seen → CanBeMirrored (door_of register) (L.seen keeper)
         → (seen_mirrored result.keeper).unharmed
-        → StandsForRun (door_of hub.register) (seen_mirrored result.keeper) }
+        → StandsForRun (door_of register) (seen_mirrored result.keeper) }
 {
-    let (register, lower) = hub.into_parts();
-    let mut lower = lower;
+    let mut lower = keeper;
     let upper = fill(alloc, seed, &register, &mut lower);
     Hub::new(alloc, register, join(alloc, lower, upper))
 }

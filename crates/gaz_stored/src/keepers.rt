@@ -1,74 +1,52 @@
 //! What a hub does over a keeper, whatever it is: so it is proved once, and at a store's type each
 //! call would cost the proof ten seconds more.
-ghost use Rattle.std.specs.Prelude.{◌≡◌, ◌∷◌, [], option_map};
+ghost use Rattle.std.specs.Prelude.{option_map};
 ghost use Rattle.gaz_keeper.specs.Keeper.{IsNotOpen};
-ghost use Rattle.gaz_hub.specs.Hubs.{Runs, door_of, or_not_received};
-ghost use Rattle.gaz_hub.specs.Step.{Pose, Replied};
-ghost use Rattle.gaz_hub.specs.declared.question.Question.TheVariants.{Settle};
 ghost use Rattle.gaz_exchange.specs.Conversing.{StopsByFault, transfer};
 ghost use Rattle.gaz_stored.specs.Asking.{asked};
-ghost use Rattle.gaz_stored.specs.Keepers.{AsksWith, ConversesWith, ServesWith};
 ghost use Rattle.gaz_stored.specs.Meetings.{WithPeers};
 ghost use Rattle.gaz_stored.specs.Serving.{EndsEarly};
+ghost use Rattle.gaz_stored.specs.Ways.{Asks, Converses, Goes, SettlesAndServes};
 
 use crate::asking::ask_hub;
 use crate::connections::{MOST_REQUESTS, serve_on};
-use crate::mirroring::{ReadFrom, mirror};
+use crate::joining::mirrored;
 use crate::peers::Peers;
 use gaz_commands::Said;
 use gaz_exchange::{Served, Sink, Source, Stopped, converse};
 use gaz_hub::Hub;
-use gaz_keeper::{Inbox, ShelfFault};
+use gaz_keeper::Inbox;
 use gaz_loaded::Listed;
 use gaz_register::Register;
 use gaz_shelf::{MemShelf, Seed};
 use gaz_words::Call;
 use std::alloc::Global;
 
-/// Judges what is ready in a keeper, and whether that went well.
-pub(crate) fn settled<K: Inbox + Drop>(
-    alloc: Global,
-    register: Register,
-    keeper: K,
-) -> (Register, K, Result<(), ShelfFault>)
-    requires { IsNotOpen (K.seen keeper).progress }
-    ensures register { result.0 ≡ register }
-    ensures idle { IsNotOpen (K.seen result.1).progress }
-    ensures runs { Runs (door_of register) (K.seen keeper) (K.seen result.1)
-        (Pose Settle ∷ []) (Replied Settle (or_not_received result.2) ∷ []) }
-{
-    let mut hub = Hub::new(alloc, register, keeper);
-    let told = hub.settle();
-    let (register, keeper) = hub.into_parts();
-    (register, keeper, told)
-}
-
-/// Holds a conversation over a keeper; it and what is at hand of it are left.
+/// Holds a conversation over a keeper, all of which is put at hand, where memory allows; it and
+/// what is at hand of it are left.
 pub(crate) fn converse_with<K: Listed + Drop, R: Source, W: Sink>(
     alloc: Global,
     seed: Seed,
     keeper: K,
     register: Register,
-    read_from: ReadFrom,
     r: &mut R,
     w: &mut W,
     most: u64,
 ) -> (K, Option<MemShelf>, Result<Served, Stopped>)
     requires { IsNotOpen (K.seen keeper).progress }
-    ensures converses { ConversesWith K.Shelf register most
-        (transfer R.remaining W.contents r.old r.new w.old w.new) keeper result.0 result.2 }
+    ensures converses { Goes K.seen register (Converses K.Shelf register most
+        (transfer R.remaining W.contents r.old r.new w.old w.new) result.2) keeper result.0 }
     ensures failed { StopsByFault R.failed W.failed r.new w.new result.2 }
 {
-    let hub = Hub::new(alloc, register, keeper);
-    let mut hub = mirror(alloc, seed, hub, read_from);
+    let mut hub = mirrored(alloc, seed, register, keeper);
     let ended = converse(alloc, r, w, &mut hub, most);
     let (_register, mirror) = hub.into_parts();
     let (keeper, at_hand) = mirror.into_parts();
     (keeper, at_hand, ended)
 }
 
-/// Answers peers over a keeper, once it is settled and all of it put at hand, where memory allows;
-/// it, what is at hand, and how many connections were answered are left.
+/// Answers peers over a keeper, all of which is put at hand, where memory allows, and settled; it,
+/// what is at hand, and how many connections were answered are left.
 pub(crate) fn serve_with<P: Peers, K: Listed + Drop>(
     alloc: Global,
     seed: Seed,
@@ -79,13 +57,12 @@ pub(crate) fn serve_with<P: Peers, K: Listed + Drop>(
 ) -> (K, Option<MemShelf>, u64)
     requires { IsNotOpen (K.seen keeper).progress }
     ensures serves { WithPeers P.meets P.Reader.Source.failed P.Writer.Sink.failed
-        (ServesWith K.Shelf register MOST_REQUESTS result.2 keeper result.0)
-        peers.old peers.new }
+        (λ met. Goes K.seen register (SettlesAndServes K.Shelf register MOST_REQUESTS result.2 met)
+        keeper result.0) peers.old peers.new }
     ensures many { EndsEarly connections result.2 result.1 }
 {
-    let (register, keeper, _settled) = settled(alloc, register, keeper);
-    let hub = Hub::new(alloc, register, keeper);
-    let mut hub = mirror(alloc, seed, hub, ReadFrom::Memory);
+    let mut hub = mirrored(alloc, seed, register, keeper);
+    let _settled = hub.settle();
     let served = serve_on(alloc, peers, &mut hub, connections);
     let (_register, mirror) = hub.into_parts();
     let (keeper, at_hand) = mirror.into_parts();
@@ -101,8 +78,8 @@ pub(crate) fn ask_with<K: Inbox + Drop>(
     file: Option<&[u8]>,
 ) -> (K, Said)
     requires { IsNotOpen (K.seen keeper).progress }
-    ensures { AsksWith K.seen register
-        (asked call.entry (option_map (λ bytes. bytes.now) file.entry)) keeper result.0 result.1 }
+    ensures { Goes K.seen register (Asks register
+        (asked call.entry (option_map (λ bytes. bytes.now) file.entry)) result.1) keeper result.0 }
 {
     let mut hub = Hub::new(alloc, register, keeper);
     let said = ask_hub(&mut hub, call, file);

@@ -1,9 +1,11 @@
 //! What a reader of the definitions may rely on.
-ghost use Rattle.gaz_stored.specs.Chains.{ChainsAreOne};
+ghost use Rattle.sqlite.specs.Held.{Held};
+ghost use Rattle.gaz_store.specs.Opened.{IsRefused};
+ghost use Rattle.gaz_stored.specs.CallExamples.{WorkedCalls};
+ghost use Rattle.gaz_stored.specs.Calls.{CallsAreOne};
 ghost use Rattle.gaz_stored.specs.Examples.{WorkedExamples};
 ghost use Rattle.gaz_stored.specs.Filling.{VolumesStay};
 ghost use Rattle.gaz_stored.specs.FillingExamples.{WorkedFilling};
-ghost use Rattle.gaz_stored.specs.GrownChains.{GrownChainsAreOne};
 ghost use Rattle.gaz_stored.specs.MeetingExamples.{WorkedMeetings};
 ghost use Rattle.gaz_stored.specs.Migrating.{MigratedStands};
 ghost use Rattle.gaz_stored.specs.Reopening.{OpensAgain};
@@ -22,6 +24,12 @@ pub fn worked_filling()
     ensures { WorkedFilling }
 {}
 
+/// What calls one after another ask and leave, on worked examples.
+pub fn worked_calls<S: Alter>()
+    ensures { (conn : Held S) (refused : IsRefused S.Store conn conn)
+        → WorkedCalls S.Store conn refused }
+{}
+
 /// Which peers came, and that nobody serves who met none, on worked examples.
 pub fn worked_meetings<K: Inbox>()
     ensures { WorkedMeetings K.seen }
@@ -32,18 +40,11 @@ pub fn volumes_stay()
     ensures { VolumesStay }
 {}
 
-/// Conversations one after another over a database that was made a store, or whose tables stood for
-/// a partial run, each of which goes on from what the tables stand for then, are one conversation
-/// of one hub at all their commands.
-pub fn chains_are_one()
-    ensures { ChainsAreOne }
-{}
-
-/// Tables that stood for a partial run stand for one under a register that grew; and conversations
-/// one after another, each under a register that extends the one before, are one run of one hub
-/// over these registers.
-pub fn grown_chains_are_one()
-    ensures { GrownChainsAreOne }
+/// Calls one after another over a database whose tables are a store's that stands for a partial
+/// run, each under a register of its own, of which any may be refused: they are one run of one hub
+/// over registers of which each extends the one before, and the tables are a store's of the last.
+pub fn calls_are_one<S: Alter>()
+    ensures { CallsAreOne S.Store }
 {}
 
 /// Conversations one after another, each of which was stopped and goes on from what was left of the
@@ -59,9 +60,8 @@ pub fn migrated_stands()
     ensures { MigratedStands }
 {}
 
-/// Tables that a call handed back, or that a stop left of it, where they stood for a partial run
-/// before it: `Store::open` under the same register, or under the grown one where it grew, answers
-/// `Ok` or `Fault`, and never `BadSchema` or `OtherRegister`.
+/// A store's tables, as each call hands them back, and what a stop left of one: `Store::open` under
+/// their register answers `Ok` or `Fault`, and never `BadSchema` or `OtherRegister`.
 pub fn opens_again<S: Alter>()
     ensures { OpensAgain S.Store }
 {}

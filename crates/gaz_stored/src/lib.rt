@@ -1,5 +1,5 @@
-//! A hub over the store behind a connection: a conversation over one that is made or opened, one
-//! call, and the connections of a listener.
+//! A hub over the store behind a connection: a conversation over one that is made, one call, and
+//! the connections of a listener; a store's register grows, and a store of schema 1 is migrated.
 #![tactic(auto)]
 
 mod answering;
@@ -8,19 +8,19 @@ mod attending;
 mod connections;
 mod extending;
 mod filling;
+mod handing;
 mod joining;
 mod keepers;
 pub mod laws;
 mod migrating;
-mod mirroring;
 mod peers;
 
-pub use answering::{HandedBack, answer_new, answer_opened};
-pub use asking::{Asked, ask_opened};
-pub use attending::{Attended, Unserved, serve_opened};
+pub use answering::answer_new;
+pub use asking::ask_opened;
+pub use attending::{Unserved, serve_opened};
 pub use connections::MOST_REQUESTS;
-pub use extending::{Extended, extend_opened};
+pub use extending::extend_opened;
+pub use handing::HandedBack;
 pub use joining::mirrored;
-pub use migrating::{Migrated, Migration, migrate_opened};
-pub use mirroring::ReadFrom;
+pub use migrating::{Migration, migrate_opened};
 pub use peers::Peers;

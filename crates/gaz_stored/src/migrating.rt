@@ -1,17 +1,13 @@
 //! The store of schema 1 behind a connection becomes one of schema 2; the connection is handed
 //! back.
-ghost use Rattle.std.specs.Prelude.{◌≡◌, false, Err, IfErr, IfOk};
-ghost use Rattle.sqlite.specs.Held.{state};
-ghost use Rattle.gaz_register.specs.Texts.{register_text};
-ghost use Rattle.gaz_kept.specs.Opening.{Judges, Tells, has_all};
-ghost use Rattle.gaz_kept.specs.OpeningFirst.{JudgesFirst, TellsFirst, has_first};
-ghost use Rattle.gaz_store.specs.Opened.{IsRefused};
-ghost use Rattle.gaz_stored.specs.Migrating.{MigratesOpened, StopsMoving, told_of};
+ghost use Rattle.std.specs.Prelude.{◌≡◌, false, IfOk};
+ghost use Rattle.gaz_stored.specs.Migrating.{LacksBoth, MigratesOpened, StopsMoving, told_of};
 
+use crate::handing::HandedBack;
 use gaz_kept::migrating::is_first;
 use gaz_register::Register;
 use gaz_shelf::Seed;
-use gaz_store::{Store, StoreRefusal};
+use gaz_store::Store;
 use sqlite::{Alter, Connection};
 use std::alloc::Global;
 use std::marker::Brand;
@@ -23,15 +19,6 @@ pub enum Migration {
     Done,
     /// It was of schema 2 already, and nothing was written.
     Current,
-}
-
-/// What is left when a store was to be migrated.
-#[derive(Drop)]
-pub struct Migrated<S: Alter + Drop> {
-    /// The connection, outside a transaction.
-    pub conn: Connection<S>,
-    /// What it came to, or why there was no store.
-    pub told: Result<Migration, StoreRefusal>,
 }
 
 // What is told, by whether the tables were those of schema 1.
@@ -55,33 +42,24 @@ pub fn migrate_opened<S: Alter + Drop>(
     seed: Seed,
     conn: Connection<S>,
     register: &Register,
-) -> Migrated<S>
+) -> HandedBack<S, Migration>
     requires { conn.in_transaction ≡ false }
     ensures over { result.conn.in_transaction ≡ false }
     ensures migrates { IfOk result.told
         (MigratesOpened S.Store register.now conn result.conn) }
-    ensures lacking { has_all (state S.Store conn).now.schema ≡ false
-        → has_first (state S.Store conn).now.schema ≡ false
-        → result.told ≡ Err StoreRefusal.BadSchema }
-    ensures told { IfErr result.told (λ refusal.
-        Tells S.Store conn result.conn (Err refusal) (register_text register.now)) }
-    ensures judged { IfErr result.told (λ refusal.
-        Judges S.Store conn result.conn (Err refusal) (register_text register.now)) }
-    ensures told_first { IfErr result.told (λ refusal.
-        TellsFirst S.Store conn result.conn (Err refusal) (register_text register.now)) }
-    ensures judged_first { IfErr result.told (λ refusal.
-        JudgesFirst S.Store conn result.conn (Err refusal) (register_text register.now)) }
-    ensures refused { IfErr result.told (λ _. IsRefused S.Store conn result.conn) }
+    ensures lacks { LacksBoth S.Store register.now conn result.conn result.told }
     ensures stops { StopsMoving S.Store register.now conn result.conn }
 {
     let first = is_first(&conn);
     match Store::<S, Brand>::migrate(alloc, seed, conn, register) {
-        Ok(store) => Migrated {
+        Ok(store) => HandedBack {
             conn: store.into_connection(),
+            at_hand: None,
             told: Ok(told_of(first)),
         },
-        Err((conn, refusal)) => Migrated {
+        Err((conn, refusal)) => HandedBack {
             conn,
+            at_hand: None,
             told: Err(refusal),
         },
     }

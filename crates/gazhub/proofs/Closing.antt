@@ -12,7 +12,7 @@ use Rattle.sqlite_store.specs.FileStore.{view}
 use Rattle.sqlite_store.specs.declared.store.FileStore.{FileStore}
 use Rattle.sqlite_trees.specs.View.{IsClean}
 use Rattle.sqlite_wal.specs.Reads.{AreClean}
-use Rattle.gazhub.specs.Visits.{Closes}
+use Rattle.gazhub.specs.Filing.{Closes}
 
 module _ {D : Type 0} (g : disk.Ghosts D) (conn : Held (FileStore D g)) (live : IsLive (file_state conn))
     (settled : IsTrue (file_state conn).is_open → (file_state conn).now ≡ (file_state conn).committed) where

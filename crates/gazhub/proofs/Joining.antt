@@ -1,62 +1,70 @@
 -- Calls over the same files are one run of one hub.
-use Rattle.std.proofs.Common.{◌≡◌, List, [], ◌∷◌, ◌∙◌, ap, subst, sym}
-use Rattle.std.specs.Prelude.{Some}
+use Rattle.std.proofs.Common.{◌≡◌, List, [], ◌∷◌, map, ◌∙◌, ap, refl, subst, sym}
+use Rattle.std.specs.Prelude.{Option, Some}
 use Rattle.sqlite.specs.Effect.{Database}
+use Rattle.sqlite.specs.Files.{file_state, over_files}
+use Rattle.sqlite.specs.Held.{Held}
+use Rattle.sqlite.specs.State.{HasCleanDisk}
 use Rattle.sqlite.proofs.Callers.{finds_again}
 use Rattle.sqlite_catalog.proofs.ReadLemmas.{lists_once}
 use Rattle.sqlite_catalog.specs.Listing.{Lists}
 use Rattle.sqlite_disk.specs.declared.Disk as disk
+use Rattle.sqlite_disk.specs.declared.Files.{Files}
 use Rattle.sqlite_schema.specs.declared.schema.Schema.{Schema}
+use Rattle.sqlite_store.specs.declared.store.FileStore.{FileStore}
 use Rattle.sqlite_trees.specs.Objects.{catalog_tree}
 use Rattle.sqlite_trees.specs.Tree.{Trees}
-use Rattle.gaz_register.specs.Registers.{RegisterValue}
-use Rattle.gaz_stored.specs.Chains.{Chain, ChainsAreOne}
-use Rattle.gaz_stored.specs.Runs.{GoesOn, StandForRun, hub_in}
-use Rattle.gazhub.specs.Joined.{CallsAreOne, IsOneRun}
-use Rattle.gazhub.specs.Visits.{AreInTurn, AreWhole, Closes, IsWhole, Visit, Visits, found_by, left_by, talks_of}
+use Rattle.gaz_store.specs.Seen.{IsUnharmed}
+use Rattle.gaz_stored.proofs.Calling as calling
+use Rattle.gaz_stored.proofs.Reopening as reopening
+use Rattle.gaz_stored.proofs.Using.{made_alone}
+use Rattle.gaz_stored.specs.Calls as stored
+use Rattle.gaz_stored.specs.Runs.{GoesOn, IsStoreOf}
+use Rattle.gaz_hub.specs.Step.{new_hub}
+use Rattle.gazhub.specs.Filing.{Closes, Connects}
+use Rattle.gazhub.specs.Joined.{AreInTurn, CallsAreOne, FileCall, NextOpens, call_over}
 
 abbrev database : Schema → Trees → Database
 database schema trees = record { schema = schema; trees = trees }
 
-pub same_parts : (s t : Schema) (a b : Trees) → s ≡ t → a ≡ b → database s a ≡ database t b
+same_parts : (s t : Schema) (a b : Trees) → s ≡ t → a ≡ b → database s a ≡ database t b
 same_parts s t a b p q = ap (λ (x : Schema). database x a) p ∙ ap (λ (x : Trees). database t x) q
 
 module _ {D : Type 0} (g : disk.Ghosts D) where
-  -- what a visit leaves is what the next finds
-  pub found_again : (old next : Visit g) → Closes g old.after old.left → old.left ≡ Some next.files → IsWhole g old → IsWhole g next → (register : RegisterValue) → Visits g register next
-      → found_by g next ≡ left_by g old
-  found_again old next closes gives was is register visits =
-      let copied = subst (λ left. Closes g old.after left) gives closes in
-      let opened = visits.connects.opened is.clean in
-      let committed = finds_again old.after next.conn next.files copied.files (visits.connects.found is.clean) in
-      let before = ap (λ (db : Database). db.trees) (closes.settled was.unharmed.is_open) in
+  -- what a connection that was closed held, the next one shows
+  shown_again : (old conn : Held (FileStore D g)) (files : Files D) → IsUnharmed (file_state old) → Closes g old (Some files) → Connects g files conn → HasCleanDisk (file_state conn)
+      → (file_state conn).now ≡ (file_state old).now
+  shown_again old conn files fine closes connects clean =
+      let opened = connects.opened clean in
+      let committed = finds_again old conn files closes.files (connects.found clean) in
+      let before = ap (λ (db : Database). db.trees) (closes.settled fine.is_open) in
       let now = ap (λ (db : Database). db.trees) opened.0.clean in
-      let trees : (found_by g next).trees ≡ (left_by g old).trees = now ∙ committed ∙ sym before in
-      let lists = (closes.live was.unharmed.is_open).0.lists in
-      let listed = subst (λ (t : Trees). Lists (t catalog_tree) (found_by g next).schema) trees (opened.1 opened.0.is_open).0.lists in
-      same_parts (found_by g next).schema (left_by g old).schema (found_by g next).trees (left_by g old).trees (lists_once _ _ _ listed lists) trees
+      let trees : (file_state conn).now.trees ≡ (file_state old).now.trees = now ∙ committed ∙ sym before in
+      let lists = (closes.live fine.is_open).0.lists in
+      let listed = subst (λ (t : Trees). Lists (t catalog_tree) (file_state conn).now.schema) trees (opened.1 opened.0.is_open).0.lists in
+      same_parts (file_state conn).now.schema (file_state old).now.schema (file_state conn).now.trees (file_state old).now.trees (lists_once _ _ _ listed lists) trees
 
-  chains : (register : RegisterValue) (old : Visit g) (later : List (Visit g)) → Closes g old.after old.left → StandForRun register (left_by g old) → IsWhole g old → AreInTurn g register old.left later
-      → AreWhole g later → Chain register (hub_in (left_by g old)) (talks_of g later)
-  chains register old [] closes stands was turn whole = tt
-  chains register old (next ∷ later) closes stands was turn whole =
-      let same = found_again old next closes turn.0 was whole.0 register turn.1.0 in
-      let goes = turn.1.0.goes_on whole.0.unharmed (subst (StandForRun register) (sym same) stands) in
-      (subst (λ (db : Database). GoesOn register (hub_in db) next.commands next.responses (left_by g next)) same goes, chains register next later turn.1.0.closes goes.stands whole.0 turn.1.1 whole.1)
+  -- so each call finds what the one before left
+  in_turn : (old : Held (FileStore D g)) (left : Option (Files D)) (calls : List (FileCall g)) → IsUnharmed (file_state old) → Closes g old left → AreInTurn g left calls
+      → stored.AreInTurn (over_files {D = D} {g = g}) (file_state old).now (map (call_over g) calls)
+  in_turn old left [] fine closes turn = tt
+  in_turn old left (call ∷ later) fine closes turn = (
+    shown_again old call.over.conn call.files fine (subst (Closes g old) turn.0 closes) call.over.connects turn.1,
+    turn.2,
+    in_turn call.over.after call.left later turn.2 call.over.closes turn.3,
+  )
 
-  pub calls_are_one : ChainsAreOne → CallsAreOne g
-  calls_are_one one = record {
-    made = λ register first later founds room turn whole.
-        let goes = founds.goes_on whole.0.unharmed room in
-        one.made register _ _ (goes, chains register first later founds.closes goes.stands whole.0 turn whole.1);
-    opened = λ register first later visits stood turn whole.
-        let goes = visits.goes_on whole.0.unharmed stood in
-        one.opened register _ stood _ _ (goes, chains register first later visits.closes goes.stands whole.0 turn whole.1);
-    migrated = λ register move first later moves was turn whole.
-        let made = moves.goes_on whole.0.unharmed was in
-        let same = found_again move first moves.closes turn.0 whole.0 whole.1.0 register turn.1.0 in
-        let stood = subst (StandForRun register) (sym same) made.stands in
-        let goes = turn.1.0.goes_on whole.1.0.unharmed stood in
-        subst (λ before. IsOneRun g register before first later) (ap hub_in same ∙ made.hub)
-        (one.opened register _ stood _ _ (goes, chains register first later turn.1.0.closes goes.stands whole.1.0 turn.1.1 whole.1.1));
+  pub calls_are_one : CallsAreOne g
+  calls_are_one = record {
+    opened = λ register first later is store fine turn.
+        calling.calls_are_one (over_files {D = D} {g = g}) register (file_state first.over.conn).now (map (call_over g) (first ∷ later)) is store (refl, fine, in_turn first.over.after first.left later fine first.over.closes turn);
+    behind = λ register old left calls is store fine closes turn.
+        calling.calls_are_one (over_files {D = D} {g = g}) register (file_state old).now (map (call_over g) calls) is store (in_turn old left calls fine closes turn);
+    made = λ register files left conn after makes room fine.
+        let alone = made_alone register (file_state conn) makes.store makes.made room (subst (λ k. IsUnharmed (file_state k)) (sym makes.back) fine) in
+        subst (λ k. GoesOn register new_hub [] [] (file_state k).now) makes.back alone;
   }
+
+  pub next_opens : NextOpens g
+  next_opens register old conn next files store fine closes connects clean =
+      reopening.opens (over_files {D = D} {g = g}) register conn next (subst (IsStoreOf register) (sym (shown_again old conn files fine closes connects clean)) store)

@@ -4,13 +4,8 @@ mod Serving
 mod Finishing
 mod Endings
 mod Closing
-mod Resting
-mod Opening
-mod Extends
-mod Migrates
+mod Filing
 mod Joining
-mod GrownCalls
 mod WorkedJoined
 mod WorkedSites
-mod Reopened
 pub mod WorkedEndings

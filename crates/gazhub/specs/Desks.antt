@@ -1,5 +1,5 @@
--- A site in memory, of which it is known what is done at it: texts at paths, the files of one store,
--- and a peer that may come.
+-- A site in memory, of which it is known what is done at it: texts at paths, the files of one
+-- store, and a peer that may come.
 use Rattle.std.specs.Prelude.{◌≡◌, ◌⊎◌, ℕ, List, [], Option, Some, None}
 use Rattle.sqlite_disk.specs.declared.Files.{Files}
 use Rattle.gaz_stored.specs.Meetings.{Meeting, Missed, Came, Left}

@@ -1,136 +1,141 @@
 -- What is done over a store's two files.
-use Rattle.std.specs.Prelude.{◌≡◌, ◌⊎◌, ℕ, List, [], ◌∷◌, Option, None, Result, Ok, Err, IsTrue}
+use Rattle.std.specs.Prelude.{◌≡◌, ◌⊎◌, false, ℕ, List, Option, Some, None, Result, Ok, Err, IsTrue}
 use Rattle.std.specs.declared.marker.Brand.{Brand}
-use Rattle.sqlite.specs.Files.{file_state, over_files}
+use Rattle.sqlite.specs.Closing.{IsCopied}
+use Rattle.sqlite.specs.Files.{FailsToClose, Finds, IsClosed, IsOpened, file_state, over_files}
 use Rattle.sqlite.specs.Held.{Held}
+use Rattle.sqlite.specs.State.{HasCleanDisk, IsLive}
+use Rattle.sqlite.specs.declared.error.Error.{Error}
 use Rattle.sqlite_disk.specs.declared.Disk as disk
 use Rattle.sqlite_disk.specs.declared.Files.{Files}
+use Rattle.sqlite_store.specs.FileStore.{view}
 use Rattle.sqlite_store.specs.declared.store.FileStore.{FileStore}
+use Rattle.sqlite_trees.specs.View.{IsClean}
+use Rattle.sqlite_wal.specs.Reads.{AreClean}
 use Rattle.gaz_register.specs.Registers.{RegisterValue}
 use Rattle.gaz_register.specs.Texts.{register_text}
 use Rattle.gaz_kept.specs.Opening.{Tells, has_any}
+use Rattle.gaz_kept.specs.OpeningFirst.{TellsFirst}
 use Rattle.gaz_kept.specs.declared.refusal.StoreRefusal.{StoreRefusal}
 use Rattle.gaz_kept.specs.declared.refusal.StoreRefusal.TheVariants.{BadSchema, Fault}
-use Rattle.gaz_store.specs.Opened.{IsMade}
+use Rattle.gaz_store.specs.Opened.{IsMade, IsRefused}
 use Rattle.gaz_store.specs.Store.{seen_in}
+use Rattle.gaz_store.specs.declared.growing.ExtendFault.{ExtendFault}
 use Rattle.gaz_store.specs.declared.store.Store.{Store}
-use Rattle.gaz_hub.specs.Step.{Command, Pose, Replied, Response}
-use Rattle.gaz_hub.specs.declared.question.Question.TheVariants.{Settle}
-use Rattle.gaz_stored.specs.Asking.{Asks}
-use Rattle.gaz_stored.specs.Attending.{Attends}
+use Rattle.gaz_hub.specs.Step.{Command}
+use Rattle.gaz_stored.specs.Extending.{ExtendsOpened}
 use Rattle.gaz_stored.specs.Meetings.{Meeting}
+use Rattle.gaz_stored.specs.Migrating.{MigratesOpened, StopsMoving}
+use Rattle.gaz_stored.specs.Using.{UsesOpened, seen_as}
+use Rattle.gaz_stored.specs.Ways.{Asks, Attends, Way}
 use Rattle.gaz_stored.specs.declared.attending.Unserved.{Unserved}
+use Rattle.gaz_stored.specs.declared.migrating.Migration.{Migration}
 use Rattle.gaz_commands.specs.declared.printed.PrintedLine.TheVariants.{Ready}
 use Rattle.gaz_commands.specs.declared.said.Said.{Said}
 use Rattle.gaz_commands.specs.declared.said.Said.TheVariants as said
-use Rattle.gazhub.specs.Visits.{Founds, Visits}
 
 -- Below, g is what is seen of a disk.
 module _ {D : Type 0} (g : disk.Ghosts D) where
-  -- what a hub was asked where a call came to this, and what it said
-  abbrev pub asked_in : Result Command Said → List Command
-  asked_in (Ok command) = command ∷ []
-  asked_in (Err at_once) = []
+  -- a connection to the database in the files, outside a transaction
+  pub record Connects (files : Files D) (conn : Held (FileStore D g)) : Type 0 where
+    pub over : conn.in_transaction ≡ false
+    pub opened : HasCleanDisk (file_state conn) → IsOpened conn
+    pub found : HasCleanDisk (file_state conn) → Finds files conn
 
-  abbrev pub told_in : (register : RegisterValue) (before after : Held (FileStore D g))
-      (answer : Said) (call : Result Command Said)
-      → Asks over_files register call before after answer → List Response
-  told_in register before after answer (Ok command) asks = asks.response ∷ []
-  told_in register before after answer (Err at_once) asks = []
+  -- the files that are given back hold its last commit, or closing failed
+  abbrev pub CopiesOrFails : Held (FileStore D g) → Option (Files D) → Type 0
+  CopiesOrFails conn (Some files) = AreClean g files.log files.db → IsCopied conn files
+  CopiesOrFails conn None =
+      (last : FileStore D g) × ((e : Error) × (IsClosed conn last
+      × (IsClean (view last) → FailsToClose conn last e)))
 
-  -- and where connections came to this
-  abbrev pub asked_by : (register : RegisterValue) (most : ℕ)
-      (before after : Held (FileStore D g)) (held : Result ℕ Unserved) (met : List Meeting)
-      → Attends over_files register most before after held met → List Command
-  asked_by register most before after (Ok served) met attends =
-      Pose Settle ∷ attends.serves.commands
-  asked_by register most before after (Err why) met attends = []
-
-  abbrev pub told_by : (register : RegisterValue) (most : ℕ)
-      (before after : Held (FileStore D g)) (held : Result ℕ Unserved) (met : List Meeting)
-      → Attends over_files register most before after held met → List Response
-  told_by register most before after (Ok served) met attends =
-      Replied Settle attends.told_settled ∷ attends.serves.responses
-  told_by register most before after (Err why) met attends = []
+  -- a connection with nothing left to commit is closed, and these files are given back
+  pub record Closes (conn : Held (FileStore D g)) (left : Option (Files D)) : Type 0 where
+    pub live : IsLive (file_state conn)
+    pub settled : IsTrue (file_state conn).is_open
+        → (file_state conn).now ≡ (file_state conn).committed
+    pub files : CopiesOrFails conn left
 
   -- Below, the files are those that are given, and those that are given back.
   module _ (files : Files D) (left : Option (Files D)) where
-    -- a store of a register was made there
-    pub record MakesStore (register : RegisterValue) (answer : Said) : Type 0 where
+    -- a connection was had, this was done over it, and it was closed
+    pub record OverFiles (Does : Held (FileStore D g) → Held (FileStore D g) → Type 0)
+        : Type 0 where
       pub conn : Held (FileStore D g)
+      pub after : Held (FileStore D g)
+      pub connects : Connects files conn
+      pub does : Does conn after
+      pub closes : Closes after left
+
+    -- there was no connection, or it was handed back over what was there, for this reason
+    abbrev pub Declines : StoreRefusal
+        → (Held (FileStore D g) → Held (FileStore D g) → Type 0) → Type 0
+    Declines refusal Why = ((refusal ≡ Fault) × (left ≡ None))
+        ⊎ OverFiles (λ conn back. IsRefused over_files conn back × Why conn back)
+
+    -- ---- a store is made
+
+    pub record Makes (register : RegisterValue) (conn after : Held (FileStore D g)) : Type 0 where
       pub store : Store (FileStore D g) Brand over_files
       pub made : IsMade (file_state conn) (file_state store.tables.conn) (register_text register)
           (seen_in (register_text register) store)
-      pub founds : Founds g register (record {
-        files = files;
-        conn = conn;
-        after = store.tables.conn;
-        left = left;
-        commands = [];
-        responses = [];
-      })
-      pub says : answer ≡ said.Line Ready
+      pub back : store.tables.conn ≡ after
 
-    -- there was no connection
-    abbrev pub HasNone : StoreRefusal → Type 0
-    HasNone refusal = (refusal ≡ Fault) × (left ≡ None)
-
-    -- a hub of no register was asked, for this reason
-    pub record Declines (Why : Held (FileStore D g) → Held (FileStore D g) → Type 0) : Type 0 where
-      pub conn : Held (FileStore D g)
-      pub back : Held (FileStore D g)
-      pub why : Why conn back
-      pub visits : (register : RegisterValue) → Visits g register (record {
-        files = files;
-        conn = conn;
-        after = back;
-        left = left;
-        commands = [];
-        responses = [];
-      })
+    abbrev pub MakesStore : RegisterValue → Said → Type 0
+    MakesStore register answer = (answer ≡ said.Line Ready) × OverFiles (Makes register)
 
     -- making one failed, or a table of such a name is there
     abbrev pub FindsTables : StoreRefusal → Held (FileStore D g) → Held (FileStore D g) → Type 0
     FindsTables refusal conn back = (refusal ≡ Fault)
         ⊎ ((refusal ≡ BadSchema) × IsTrue (has_any (file_state conn).now.schema))
 
-    -- no store was made
     abbrev pub MakesNone : StoreRefusal → Type 0
-    MakesNone refusal = HasNone refusal ⊎ Declines (FindsTables refusal)
+    MakesNone refusal = Declines refusal (FindsTables refusal)
 
-    -- there is no hub of the register: there was no connection, or that is told of the row of
-    -- `meta`
-    abbrev pub OpensNone : RegisterValue → StoreRefusal → Type 0
-    OpensNone register refusal = HasNone refusal
-        ⊎ Declines (λ conn back. Tells over_files conn back (Err refusal) (register_text register))
+    -- ---- the store that is there is used, by a hub of the register
 
-    -- a hub of the register over the store that is there answered a call
+    abbrev pub UsesStore : RegisterValue → Way (Store (FileStore D g) Brand over_files) → Type 0
+    UsesStore register way = OverFiles (UsesOpened over_files register way)
+
+    -- a call was answered
     pub record AsksStore (register : RegisterValue) (call : Result Command Said) (answer : Said)
         : Type 0 where
-      pub conn : Held (FileStore D g)
-      pub after : Held (FileStore D g)
-      pub asks : Asks over_files register call conn after answer
-      pub visits : Visits g register (record {
-        files = files;
-        conn = conn;
-        after = after;
-        left = left;
-        commands = asked_in call;
-        responses = told_in register conn after answer call asks;
-      })
+      pub over : UsesStore register (Asks register call answer)
 
-    -- it answered so many connections, or there was no port, or nobody was told of it; this came of
-    -- them
-    pub record ServesStore (register : RegisterValue) (most : ℕ) (held : Result ℕ Unserved)
-        (met : List Meeting) : Type 0 where
-      pub conn : Held (FileStore D g)
-      pub after : Held (FileStore D g)
-      pub attends : Attends over_files register most conn after held met
-      pub visits : Visits g register (record {
-        files = files;
-        conn = conn;
-        after = after;
-        left = left;
-        commands = asked_by register most conn after held met attends;
-        responses = told_by register most conn after held met attends;
-      })
+    -- so many connections were answered, or there was no port, or nobody was told of it; this came
+    -- of them
+    abbrev pub ServesStore : RegisterValue → ℕ → Result ℕ Unserved → List Meeting → Type 0
+    ServesStore register most held met =
+        UsesStore register (Attends (seen_as (register_text register)) register most held met)
+
+    -- its register was to grow from one to another
+    abbrev pub ExtendsStore : RegisterValue → RegisterValue → Result (Unit {0}) ExtendFault
+        → Type 0
+    ExtendsStore register grown told =
+        OverFiles (λ conn after. ExtendsOpened over_files register grown conn after told)
+
+    -- there is none of the register: that is told of the row of `meta`
+    abbrev pub OpensNone : RegisterValue → StoreRefusal → Type 0
+    OpensNone register refusal = Declines refusal
+        (λ conn back. Tells over_files conn back (Err refusal) (register_text register))
+
+    -- ---- it is migrated
+
+    -- and this is what a stop leaves
+    pub record Migrates (register : RegisterValue) (told : Migration)
+        (conn after : Held (FileStore D g)) : Type 0 where
+      pub migrates : MigratesOpened over_files register conn after told
+      pub stops : StopsMoving over_files register conn after
+
+    abbrev pub MigratesStore : RegisterValue → Migration → Type 0
+    MigratesStore register told = OverFiles (Migrates register told)
+
+    -- there is none of either schema: that is told of the row of `meta`
+    pub record Refuses (register : RegisterValue) (refusal : StoreRefusal)
+        (conn back : Held (FileStore D g)) : Type 0 where
+      pub told : Tells over_files conn back (Err refusal) (register_text register)
+      pub told_first : TellsFirst over_files conn back (Err refusal) (register_text register)
+      pub stops : StopsMoving over_files register conn back
+
+    abbrev pub MigratesNone : RegisterValue → StoreRefusal → Type 0
+    MigratesNone register refusal = Declines refusal (Refuses register refusal)

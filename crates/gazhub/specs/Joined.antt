@@ -1,38 +1,72 @@
--- Calls over the same files, one after another.
-use Rattle.std.specs.Prelude.{List, ◌∷◌}
+-- Calls over the same files, one after another, each under a register of its own.
+use Rattle.std.specs.Prelude.{◌≡◌, ⊤, List, [], ◌∷◌, map, Option, Some}
+use Rattle.sqlite.specs.Effect.{Database}
+use Rattle.sqlite.specs.Files.{file_state, over_files}
+use Rattle.sqlite.specs.Held.{Held}
+use Rattle.sqlite.specs.State.{HasCleanDisk}
 use Rattle.sqlite_disk.specs.declared.Disk as disk
-use Rattle.gaz_register.specs.Registers.{RegisterValue}
+use Rattle.sqlite_disk.specs.declared.Files.{Files}
+use Rattle.sqlite_store.specs.declared.store.FileStore.{FileStore}
+use Rattle.sqlite_trees.specs.declared.store.Store.{Ghosts}
+use Rattle.gaz_register.specs.Registers.{IsRegister, RegisterValue}
 use Rattle.gaz_tables.specs.Creating.{HasRoom}
-use Rattle.gaz_hub.specs.Step.{HubState, new_hub}
-use Rattle.gaz_stored.specs.Chains.{after_all, all_commands, all_responses}
-use Rattle.gaz_stored.specs.Runs.{GoesOn, StandForRun, hub_in}
-use Rattle.gaz_stored.specs.Migrating.{FirstStandForRun, first_hub_in}
-use Rattle.gazhub.specs.Migrating.{Moves}
-use Rattle.gazhub.specs.Visits.{AreInTurn, AreWhole, Founds, Visit, Visits, found_by, talk_of}
-use Rattle.gazhub.specs.Visits.{talks_of}
+use Rattle.gaz_store.specs.Seen.{IsUnharmed}
+use Rattle.gaz_hub.specs.Step.{new_hub}
+use Rattle.gaz_stored.specs.Calls.{Call, Came, GoesOnGrown, all_periods, left_by}
+use Rattle.gaz_stored.specs.Reopening.{OpensThen}
+use Rattle.gaz_stored.specs.Runs.{GoesOn, IsStoreOf, hub_in}
+use Rattle.gazhub.specs.Filing.{Closes, Connects, Makes, OverFiles}
 
 module _ {D : Type 0} (g : disk.Ghosts D) where
-  -- they are one run of one hub, which was this one before them
-  abbrev pub IsOneRun : RegisterValue → HubState → Visit g → List (Visit g) → Type 0
-  IsOneRun register before first later =
-      GoesOn register before (all_commands (talks_of g (first ∷ later)))
-      (all_responses (talks_of g (first ∷ later)))
-      (after_all (talk_of g first).after (talks_of g later))
+  -- how a database in files is shown
+  abbrev shown : Ghosts (FileStore D g)
+  shown = over_files
 
-  -- a visit, and those that come after it
+  -- a call by what it came to, over the files that it was given and those that it gave back
+  pub record FileCall : Type 0 where
+    pub files : Files D
+    pub left : Option (Files D)
+    pub over : OverFiles g files left (Came shown)
+
+  abbrev pub call_over : FileCall → Call shown
+  call_over call =
+      record { before = call.over.conn; after = call.over.after; came = call.over.does }
+
+  -- each was given the files that were given back before, on a disk that returned what was written,
+  -- and no failure shut its connection
+  abbrev pub AreInTurn : Option (Files D) → List FileCall → Type 0
+  AreInTurn left [] = ⊤
+  AreInTurn left (call ∷ later) = (left ≡ Some call.files)
+      × HasCleanDisk (file_state call.over.conn) × IsUnharmed (file_state call.over.after)
+      × AreInTurn call.left later
+
+  -- from what a database stands for they are one run of one hub, over registers of which each
+  -- extends the one before
+  abbrev pub AreOneRun : RegisterValue → Database → List FileCall → Type 0
+  AreOneRun register db calls = GoesOnGrown register (hub_in db)
+      (all_periods shown (map call_over calls)) (left_by shown db (map call_over calls))
+
   pub record CallsAreOne : Type 0 where
-    -- to a store that was made where there was room
-    pub made : (register : RegisterValue) (first : Visit g) (later : List (Visit g))
-        → Founds g register first → HasRoom (found_by g first).schema
-        → AreInTurn g register first.left later → AreWhole g (first ∷ later)
-        → IsOneRun register new_hub first later
-    -- to one whose tables stood for a partial run
-    pub opened : (register : RegisterValue) (first : Visit g) (later : List (Visit g))
-        → Visits g register first → StandForRun register (found_by g first)
-        → AreInTurn g register first.left later → AreWhole g (first ∷ later)
-        → IsOneRun register (hub_in (found_by g first)) first later
-    -- to one that a visit before made of tables of schema 1, which stood for a partial run
-    pub migrated : (register : RegisterValue) (move first : Visit g) (later : List (Visit g))
-        → Moves g register move → FirstStandForRun register (found_by g move)
-        → AreInTurn g register move.left (first ∷ later) → AreWhole g (move ∷ first ∷ later)
-        → IsOneRun register (first_hub_in (found_by g move)) first later
+    -- over the store that the first of them finds
+    pub opened : (register : RegisterValue) (first : FileCall) (later : List FileCall)
+        → IsRegister register → IsStoreOf register (file_state first.over.conn).now
+        → IsUnharmed (file_state first.over.after) → AreInTurn first.left later
+        → AreOneRun register (file_state first.over.conn).now (first ∷ later)
+    -- behind a connection that was closed over a store, as over one that was just made or migrated
+    pub behind : (register : RegisterValue) (old : Held (FileStore D g)) (left : Option (Files D))
+        (calls : List FileCall)
+        → IsRegister register → IsStoreOf register (file_state old).now
+        → IsUnharmed (file_state old) → Closes g old left → AreInTurn left calls
+        → AreOneRun register (file_state old).now calls
+    -- where one is made and there was room, it is a store of its register that was asked nothing
+    pub made : (register : RegisterValue) (files : Files D) (left : Option (Files D))
+        (conn after : Held (FileStore D g))
+        → Makes g files left register conn after → HasRoom (file_state conn).now.schema
+        → IsUnharmed (file_state after) → GoesOn register new_hub [] [] (file_state after).now
+
+  -- whoever opens the files that were given back of a store, under its register, is told Ok or Fault
+  abbrev pub NextOpens : Type 0
+  NextOpens = (register : RegisterValue) (old conn next : Held (FileStore D g)) (files : Files D)
+      → IsStoreOf register (file_state old).now → IsUnharmed (file_state old)
+      → Closes g old (Some files) → Connects g files conn → HasCleanDisk (file_state conn)
+      → OpensThen over_files register conn next

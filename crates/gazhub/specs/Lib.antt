@@ -1,17 +1,14 @@
 pub mod Playing
 pub mod Endings
-pub mod Visits
 pub mod Filing
 pub mod Migrating
 pub mod Joined
 pub mod Growing
-pub mod Grown
 pub mod Sites
 pub mod Working
 pub mod Serving
 pub mod Commands
 pub mod WorkedJoined
 pub mod WorkedSites
-pub mod Reopened
 pub mod WorkedEndings
 pub mod Desks

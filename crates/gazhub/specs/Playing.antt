@@ -5,16 +5,17 @@ use Rattle.sqlite.specs.Files.{over_files}
 use Rattle.gaz_quiet.specs.Databases.{Quiet, no_tables, quiet_state}
 use Rattle.gaz_register.specs.Reading.{register_of}
 use Rattle.gaz_register.specs.Registers.{RegisterValue}
+use Rattle.gaz_register.specs.Texts.{register_text}
 use Rattle.gaz_hub.specs.Answers.{AllAnswered}
 use Rattle.gaz_hub.specs.Hubs.{door_of}
 use Rattle.gaz_hub.specs.Runs.{Abides}
 use Rattle.gaz_hub.specs.Step.{HubState}
 use Rattle.gaz_exchange.specs.Conversing.{Transfer}
-use Rattle.gaz_exchange.specs.Exchanges.{commands_of, responses_of}
 use Rattle.gaz_exchange.specs.declared.conversation.Served.{Served}
 use Rattle.gaz_exchange.specs.declared.conversation.Stopped.{Stopped}
-use Rattle.gaz_stored.specs.Answering.{AnswersNew}
 use Rattle.gaz_stored.specs.Runs.{hub_in}
+use Rattle.gaz_stored.specs.Using.{UsesMade, seen_as}
+use Rattle.gaz_stored.specs.Ways.{Converses}
 
 -- a hub of the register that a text describes, over a store that is made in an empty database in
 -- memory, answers at most so many requests
@@ -25,18 +26,14 @@ pub record Plays (text : List ℕ) (most : ℕ) (through : Transfer) (ended : Re
   pub before : Quiet
   pub after : Quiet
   pub empty : (quiet_state before).now.schema ≡ no_tables
-  pub answers_new : AnswersNew over_files register most through before after ended
+  pub uses : UsesMade over_files register (Converses (seen_as (register_text register)) register
+      most through ended) before after
   -- step by step the hub went to one of which this is so: what was received is what came first, and
   -- the board is partial over it,
   pub hub : HubState
-  pub abides : Abides (door_of register) (commands_of answers_new.converses.conversation.exchanges)
-      (responses_of answers_new.converses.conversation.exchanges) hub
+  pub abides : Abides (door_of register) uses.commands uses.responses hub
   -- and each answer is read off the standing board of the files that were received by then
-  pub answers : AllAnswered (door_of register) map.empty
-      (commands_of answers_new.converses.conversation.exchanges)
-      (responses_of answers_new.converses.conversation.exchanges) hub.received
+  pub answers : AllAnswered (door_of register) map.empty uses.commands uses.responses hub.received
   -- so it is of what the tables stand for in the end, unless a want of memory shut the database
-  pub tables : IsTrue (quiet_state after).is_open → Abides (door_of register)
-      (commands_of answers_new.converses.conversation.exchanges)
-      (responses_of answers_new.converses.conversation.exchanges)
-      (hub_in (quiet_state after).now)
+  pub tables : IsTrue (quiet_state after).is_open → Abides (door_of register) uses.commands
+      uses.responses (hub_in (quiet_state after).now)

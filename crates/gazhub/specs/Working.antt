@@ -4,64 +4,55 @@ use Rattle.sqlite_disk.specs.declared.Disk as disk
 use Rattle.sqlite_disk.specs.declared.Files.{Files}
 use Rattle.gaz_kept.specs.declared.refusal.StoreRefusal.{StoreRefusal}
 use Rattle.gaz_register.specs.Registers.{RegisterValue}
-use Rattle.gaz_store.specs.declared.growing.ExtendFault.{ExtendFault}
 use Rattle.gaz_stored.specs.Asking.{asked}
-use Rattle.gaz_stored.specs.declared.migrating.Migration.{Migration}
 use Rattle.gaz_commands.specs.declared.said.Said.{Said}
 use Rattle.gaz_words.specs.declared.command.Call.{Call}
 use Rattle.gaz_words.specs.declared.command.Places.{Places}
-use Rattle.gazhub.specs.Filing.{AsksStore, MakesNone, MakesStore, OpensNone}
-use Rattle.gazhub.specs.Growing.{ExtendsStore, said_of_growth}
-use Rattle.gazhub.specs.Migrating.{MigratesNone, MigratesStore, said_of_migration}
+use Rattle.gazhub.specs.Filing.{AsksStore, ExtendsStore, MakesNone, MakesStore, MigratesNone}
+use Rattle.gazhub.specs.Filing.{MigratesStore, OpensNone}
+use Rattle.gazhub.specs.Growing.{said_of_growth}
+use Rattle.gazhub.specs.Migrating.{said_of_migration}
 use Rattle.gazhub.specs.Sites.{Closed, Deed, ReadsFor, WithFiles, WithRegister, of_store}
 use Rattle.gazhub.specs.declared.files.NoHub.{NoHub}
 use Rattle.gazhub.specs.declared.purpose.Purpose.TheVariants as purpose
 
 -- Below, g is what is seen of a disk, and done says of a site between which states a deed can be.
 module _ {S D : Type 0} (done : S → Deed D → S → Type 0) (g : disk.Ghosts D) where
-  -- a store of the register was made in these files, or wasn't, and that is told
-  pub record MakesIn (register : RegisterValue) (files : Files D)
-      (before after : S) (told : Result Said NoHub) : Type 0 where
+  -- what was to be done over the store in these files was done, or there was none, and that is told
+  pub record DoneIn {T : Type 0} (Does : Option (Files D) → T → Type 0)
+      (Lacks : Option (Files D) → StoreRefusal → Type 0)
+      (said_of : Result T StoreRefusal → Result Said NoHub) (before after : S)
+      (told : Result Said NoHub) : Type 0 where
     pub left : Option (Files D)
-    pub held : Result Said StoreRefusal
-    pub made : IfOk held (MakesStore g files left register)
-    pub none : IfErr held (MakesNone g files left)
-    pub told_is : told ≡ of_store held
+    pub held : Result T StoreRefusal
+    pub does : IfOk held (Does left)
+    pub lacks : IfErr held (Lacks left)
+    pub told_is : told ≡ said_of held
     pub closed : done before (Closed left) after
 
-  -- a hub of the register over the store in these files was asked, or there was none, and that is
-  -- told; a submission was of the bytes that were read
-  pub record AsksIn (call : Call) (register : RegisterValue) (files : Files D)
-      (before after : S) (told : Result Said NoHub) : Type 0 where
+  -- a store of the register was made
+  abbrev pub MakesIn : RegisterValue → Files D → S → S → Result Said NoHub → Type 0
+  MakesIn register files =
+      DoneIn (λ left. MakesStore g files left register) (MakesNone g files) of_store
+
+  -- its register was to grow
+  abbrev pub GrowsIn : RegisterValue → RegisterValue → Files D → S → S → Result Said NoHub → Type 0
+  GrowsIn register grown files = DoneIn (λ left. ExtendsStore g files left register grown)
+      (λ left. OpensNone g files left register) said_of_growth
+
+  -- it was to be migrated
+  abbrev pub MigratesIn : RegisterValue → Files D → S → S → Result Said NoHub → Type 0
+  MigratesIn register files = DoneIn (λ left. MigratesStore g files left register)
+      (λ left. MigratesNone g files left register) said_of_migration
+
+  -- a hub of the register over it was asked; a submission was of the bytes that were read
+  pub record AsksIn (call : Call) (register : RegisterValue) (files : Files D) (before after : S)
+      (told : Result Said NoHub) : Type 0 where
     pub bytes : Option (List ℕ)
-    pub left : Option (Files D)
-    pub held : Result Said StoreRefusal
-    pub asks : IfOk held (AsksStore g files left register (asked call bytes))
-    pub none : IfErr held (OpensNone g files left register)
-    pub told_is : told ≡ of_store held
     pub between : S
     pub reads : ReadsFor done before between call bytes
-    pub closed : done between (Closed left) after
-
-  -- the register of the store in these files was to grow, and what came of it is told
-  pub record GrowsIn (register grown : RegisterValue) (files : Files D)
-      (before after : S) (told : Result Said NoHub) : Type 0 where
-    pub left : Option (Files D)
-    pub held : Result (Result (Unit {0}) ExtendFault) StoreRefusal
-    pub extends : IfOk held (ExtendsStore g files left register grown)
-    pub none : IfErr held (OpensNone g files left register)
-    pub told_is : told ≡ said_of_growth held
-    pub closed : done before (Closed left) after
-
-  -- the store in these files was to be migrated, and what came of it is told
-  pub record MigratesIn (register : RegisterValue) (files : Files D)
-      (before after : S) (told : Result Said NoHub) : Type 0 where
-    pub left : Option (Files D)
-    pub held : Result Migration StoreRefusal
-    pub migrates : IfOk held (MigratesStore g files left register)
-    pub none : IfErr held (MigratesNone g files left register)
-    pub told_is : told ≡ said_of_migration held
-    pub closed : done before (Closed left) after
+    pub asks : DoneIn (λ left. AsksStore g files left register (asked call bytes))
+        (λ left. OpensNone g files left register) of_store between after told
 
   -- the register and then the store are looked for at the places that the words name, and one of
   -- these is done

@@ -1,5 +1,6 @@
 //! Commands over the store at a path: one is made, and a hub over one is asked.
-ghost use Rattle.std.specs.Prelude.{IsTrue};
+ghost use Rattle.std.specs.Prelude.{◌≡◌, IsTrue, option_map};
+ghost use Rattle.gazhub.specs.Sites.{bytes_of};
 ghost use Rattle.gazhub.specs.Working.{AskComesTo, AsksIn, MakesIn, InitComesTo};
 
 use crate::files::{NoHub, of_store, open_files, read_change_file, read_register};
@@ -46,6 +47,16 @@ pub fn init<S: Site>(
     init_in(site, alloc, seed, &register, files, options)
 }
 
+// What was read, if it was.
+fn slice_of(read: &Option<Vec<u8>>) -> Option<&[u8]>
+    ensures { option_map (λ bytes. bytes.now) result ≡ bytes_of read.now }
+{
+    match read {
+        Some(bytes) => Some(bytes.as_slice()),
+        None => None,
+    }
+}
+
 // Asks a hub of the register over the store in these files.
 fn ask_in<S: Site>(
     site: &mut S,
@@ -62,7 +73,7 @@ fn ask_in<S: Site>(
         site.old site.new result }
 {
     let bytes = read_change_file(site, call);
-    let file = bytes.as_ref().map(|bytes| bytes.as_slice());
+    let file = slice_of(&bytes);
     let (left, said) = ask_store(alloc, files, options, seed, register, call, file);
     site.close(left);
     of_store(said)

@@ -1,7 +1,7 @@
 //! A store's register grows.
 ghost use Rattle.std.specs.Prelude.{◌≡◌, IfErr, IfOk, IsTrue};
-ghost use Rattle.gazhub.specs.Filing.{OpensNone};
-ghost use Rattle.gazhub.specs.Growing.{ExtendsStore, not_extended, said_of_growth};
+ghost use Rattle.gazhub.specs.Filing.{ExtendsStore, OpensNone};
+ghost use Rattle.gazhub.specs.Growing.{not_extended, said_of_growth};
 ghost use Rattle.gazhub.specs.Working.{ExtendComesTo, ExtendsTo, GrowsIn};
 
 use crate::files::{NoHub, open_files, read_register};
@@ -12,7 +12,7 @@ use gaz_commands::{PrintedLine, Said};
 use gaz_ledger::Seed;
 use gaz_register::{GrowFault, Register};
 use gaz_store::{ExtendFault, StoreRefusal};
-use gaz_stored::{Extended, extend_opened};
+use gaz_stored::{HandedBack, extend_opened};
 use gaz_words::Places;
 use sqlite::{Files, Options};
 use sqlite_disk::Disk;
@@ -40,7 +40,7 @@ pub fn extend_store<D: Disk + Drop>(
     let Some(conn) = connect(alloc, files, options) else {
         return (None, Err(StoreRefusal::Fault));
     };
-    let Extended { conn, told } = extend_opened(alloc, seed, conn, register, grown);
+    let HandedBack { conn, told, .. } = extend_opened(alloc, seed, conn, register, grown);
     let left = close(conn);
     (left, told)
 }

@@ -1,6 +1,7 @@
 //! A store of schema 1 becomes one of schema 2.
 ghost use Rattle.std.specs.Prelude.{◌≡◌, IfErr, IfOk, IsTrue};
-ghost use Rattle.gazhub.specs.Migrating.{MigratesNone, MigratesStore, said_of_migration};
+ghost use Rattle.gazhub.specs.Filing.{MigratesNone, MigratesStore};
+ghost use Rattle.gazhub.specs.Migrating.{said_of_migration};
 ghost use Rattle.gazhub.specs.Working.{MigratesIn, MigrateComesTo};
 
 use crate::files::{NoHub, open_files, read_register};
@@ -11,7 +12,7 @@ use gaz_commands::{PrintedLine, Said};
 use gaz_ledger::Seed;
 use gaz_register::Register;
 use gaz_store::StoreRefusal;
-use gaz_stored::{Migrated, Migration, migrate_opened};
+use gaz_stored::{HandedBack, Migration, migrate_opened};
 use gaz_words::Places;
 use sqlite::{Files, Options};
 use sqlite_disk::Disk;
@@ -35,7 +36,7 @@ pub fn migrate_store<D: Disk + Drop>(
     let Some(conn) = connect(alloc, files, options) else {
         return (None, Err(StoreRefusal::Fault));
     };
-    let Migrated { conn, told } = migrate_opened(alloc, seed, conn, register);
+    let HandedBack { conn, told, .. } = migrate_opened(alloc, seed, conn, register);
     let left = close(conn);
     (left, told)
 }

@@ -11,7 +11,7 @@ use gaz_exchange::{Cause, Served, Sink, Source, Stopped};
 use gaz_ledger::Seed;
 use gaz_quiet::new_database;
 use gaz_register::Register;
-use gaz_stored::{HandedBack, ReadFrom, answer_new};
+use gaz_stored::{HandedBack, answer_new};
 use std::alloc::Global;
 use std::mem::forget;
 
@@ -57,13 +57,13 @@ pub fn answer_all<R: Source, W: Sink>(
     let HandedBack {
         conn,
         at_hand,
-        held,
-    } = answer_new(alloc, seed, conn, register, ReadFrom::Memory, r, w, MOST);
+        told,
+    } = answer_new(alloc, seed, conn, register, r, w, MOST);
     // The program ends, and the system takes back at once what would take longer to free piece by
     // piece.
     forget(conn);
     forget(at_hand);
-    match held {
+    match told {
         Ok(ended) => Some(ended),
         Err(_) => None,
     }

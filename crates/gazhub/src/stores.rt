@@ -3,14 +3,14 @@ ghost use Rattle.std.specs.Prelude.{◌≡◌, ◌≤◌, false, IfErr, IfOk, If
 ghost use Rattle.gaz_stored.specs.Asking.{asked};
 ghost use Rattle.gaz_stored.specs.Attending.{IsAnnounced};
 ghost use Rattle.gaz_stored.specs.Meetings.{WithPeers};
-ghost use Rattle.gazhub.specs.Filing.{AsksStore, MakesNone, MakesStore, OpensNone, ServesStore};
-ghost use Rattle.gazhub.specs.Visits.{Closes, Connects};
+ghost use Rattle.gazhub.specs.Filing.{AsksStore, Closes, Connects, MakesNone, MakesStore};
+ghost use Rattle.gazhub.specs.Filing.{OpensNone, ServesStore};
 
 use gaz_commands::{PrintedLine, Said};
 use gaz_ledger::Seed;
 use gaz_register::Register;
 use gaz_store::{Store, StoreRefusal};
-use gaz_stored::{Asked, Attended, MOST_REQUESTS, Peers, Unserved, ask_opened, serve_opened};
+use gaz_stored::{HandedBack, MOST_REQUESTS, Peers, Unserved, ask_opened, serve_opened};
 use gaz_words::Call;
 use sqlite::{Connection, FileStore, Files, Options};
 use sqlite_disk::Disk;
@@ -105,9 +105,9 @@ pub fn ask_store<D: Disk + Drop>(
     let Some(conn) = connect(alloc, files, options) else {
         return (None, Err(StoreRefusal::Fault));
     };
-    let Asked { conn, said } = ask_opened(alloc, seed, conn, register, call, file);
+    let HandedBack { conn, told, .. } = ask_opened(alloc, seed, conn, register, call, file);
     let left = close(conn);
-    (left, said)
+    (left, told)
 }
 
 /// Answers at most so many peers at a hub of the register over the store in the files, which are
@@ -142,14 +142,14 @@ pub fn serve_store<D: Disk + Drop, P: Peers, W: Write>(
     let Some(conn) = connect(alloc, files, options) else {
         return (None, Err(StoreRefusal::Fault));
     };
-    let Attended {
+    let HandedBack {
         conn,
         at_hand,
-        held,
+        told,
     } = serve_opened(alloc, seed, conn, register, port, peers, w, connections);
     // The program ends, and the system takes back at once what would take longer to free piece by
     // piece.
     forget(at_hand);
     let left = close(conn);
-    (left, held)
+    (left, told)
 }

@@ -1,28 +1,34 @@
--- The hub over a mirror has the register and the keeper that was settled, and its keeper is left.
-use Rattle.std.proofs.Common.{◌∙◌}
-use Rattle.gaz_hub.specs.Hubs.{or_not_received}
+-- The hub over a mirror has the register that it was given, settles, and its keeper is left.
+use Rattle.std.proofs.Common.{◌∙◌, [], ◌∷◌, refl, subst, sym}
+use Rattle.gaz_hub.specs.Hubs.{Runs, door_of, or_not_received}
+use Rattle.gaz_hub.specs.Seen.{hub_seen}
+use Rattle.gaz_hub.specs.Step.{Pose, Replied}
+use Rattle.gaz_hub.specs.declared.question.Question.TheVariants.{Settle}
+use Rattle.gaz_hub.proofs.HubRuns.{runs_one, runs_then}
+use Rattle.gaz_mirror.specs.Mirrored.{seen_mirrored}
+use Rattle.gaz_stored.proofs.Below.{left_below, over_keeper}
 use Rattle.gaz_stored.proofs.Meetings.{with_same}
-use Rattle.gaz_stored.proofs.Mirrors.{left_below, mirrors_given}
 use Rattle.gaz_stored.proofs.keepers.serve_with.Goals as goal
 
 pub returns-clause-serves : goal.returns-clause-serves
 returns-clause-serves g c =
-    let settled = c.settled-register in
-    let given = c.new-hub in
-    let first = c.mirror-hub.result in
-    let made = c.mirror-hub.ensures in
-    let last = c.serve_on-served.new.hub in
-    let same = given.ensures.register ∙ settled.ensures.register in
-    let served = c.serve_on-served.ensures.serves in
-    with_same _ _ _ _ _ _ _ (λ met serves. record {
-      settled = settled.result.1;
-      told_settled = or_not_received settled.result.2;
-      settles = settled.ensures.runs;
-      begun = first;
-      last = last;
-      register_is = made.register ∙ same;
-      fresh = made.remembers;
-      mirrors = mirrors_given g.K.Shelf c.args.register given.result.register settled.result.1 given.result.keeper first.keeper same given.ensures.keeper made.reads made.idle made.mirrors;
-      serves = serves;
-      back = left_below g.K.Shelf last.register last.keeper c.into_parts-register.result c.into_parts-keeper.result.0 c.into_parts-register.ensures c.into_parts-keeper.ensures.lower;
-    }) served
+    let begun = c.mirrored-hub.result in
+    let made = c.mirrored-hub.ensures in
+    let settle = c.settle-settled in
+    let mid = settle.new.self in
+    let told = Replied Settle (or_not_received settle.result) in
+    let left = c.serve_on-served.new.hub in
+    let last = c.into_parts-keeper.result.0 in
+    let back = left_below g.K.Shelf left.register left.keeper c.into_parts-register.result last c.into_parts-register.ensures c.into_parts-keeper.ensures.lower in
+    let d = door_of begun.register in
+    let first = runs_one d (hub_seen seen_mirrored begun) (hub_seen seen_mirrored mid) (Pose Settle) told settle.ensures.steps in
+    with_same _ _ _ _ _ _ _ (λ met serves.
+    let then = subst (λ r. Runs (door_of r) (hub_seen seen_mirrored mid) (hub_seen seen_mirrored left) serves.commands serves.responses) settle.ensures.register serves.runs in
+    let runs = runs_then d (hub_seen seen_mirrored begun) (hub_seen seen_mirrored mid) (hub_seen seen_mirrored left) (Pose Settle ∷ []) serves.commands (told ∷ []) serves.responses first then in
+    record {
+      commands = Pose Settle ∷ serves.commands;
+      responses = told ∷ serves.responses;
+      went = record { settled = or_not_received settle.result; begun = mid; left = left; of_register = settle.ensures.register ∙ made.register; serves = serves; back = back; asked = refl; told = refl };
+      harm = λ fine. made.reads.keeps.harm (runs.harm (subst (λ k. (g.K.Shelf.seen k).unharmed) (sym back) fine));
+      runs = over_keeper g.K.Shelf c.args.register c.args.keeper last begun left (Pose Settle ∷ serves.commands) (told ∷ serves.responses) made.register made.remembers made.reads made.idle made.stands back runs;
+    }) c.serve_on-served.ensures.serves

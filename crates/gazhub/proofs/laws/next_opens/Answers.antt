@@ -1,4 +1,4 @@
-use Rattle.gazhub.proofs.Reopened.{next_opens}
+use Rattle.gazhub.proofs.Joining.{next_opens}
 use Rattle.gazhub.proofs.laws.next_opens.Goals as goal
 
 pub returns : goal.returns
