@@ -87,7 +87,7 @@ def lanes() -> int:
 
 
 def prove(room: Path, account: Account, proved: set[str], is_anew: bool) -> None:
-    """Everything from nothing, by the kit's own gate: HANDLES, layout, proofs, tests, and the programs by two compilers; anew, also what
+    """Everything, by the kit's own gate: HANDLES, layout, proofs, tests, and the programs by two compilers; anew, also what
     an earlier run on this machine proved. The name of each crate is among the proved ones once it is."""
 
     def hear(line: str) -> None:
@@ -207,7 +207,7 @@ def copy_edits(root: Path, room: Path) -> None:
 
 
 def whole(root: Path, is_anew: bool) -> int:
-    """The gate: everything from nothing, in a copy of the tree."""
+    """The gate: all of it, in a copy of the tree."""
     clock, account, proved = measure.Clock(), Account(), set()
     read_pages(root, account)
     # (beside the first proofs, which leave a processor idle)

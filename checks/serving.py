@@ -12,13 +12,14 @@ from collections.abc import Callable, Iterator
 from dataclasses import dataclass
 from pathlib import Path
 
-from checks.conversations import DEADLINE
+from checks.conversations import DEADLINE, replies_in
 from checks.stores import SAMPLE, post
 
 STREET = b"10,1,1001,1,2024-01-02\n11,I,1,101,1,2001-04-01,\n99,1\n"
 APPLIED = b'{"outcome":"applied"}\n'
 NOT_THERE = b'{"refusal":17}\n'
 LARGE = b"a" * 1_048_577
+MOST_REQUESTS = 1_000  # of a connection
 
 
 @dataclass
@@ -101,6 +102,19 @@ def python_keeps_its_connection(room: Room) -> str | None:
         second.close()
         wanted = [(201, APPLIED), (404, NOT_THERE), (200, APPLIED)]
         return served.ended() if told == wanted else f"it replies {told}"
+
+
+def a_connection_ends_behind_a_thousand_requests(room: Room) -> str | None:
+    ask = b"GET /uprn/1 HTTP/1.1\r\nHost: hub\r\n\r\n"
+    with room.serves(1) as served, socket.create_connection(("127.0.0.1", served.port), DEADLINE) as ours:
+        ours.sendall(ask * (MOST_REQUESTS + 1))
+        told = b"".join(iter(lambda: ours.recv(1 << 16), b""))
+        ours.close()
+        replies = replies_in(told)
+        if len(replies) != MOST_REQUESTS:
+            return f"{len(replies)} replies"
+        lasts = [b"\r\nConnection: close\r\n" in it for it in replies]
+        return served.ended() if lasts == [False] * (MOST_REQUESTS - 1) + [True] else "another reply than the last one ends the connection"
 
 
 def a_large_file_is_refused_and_told(room: Room) -> str | None:
@@ -193,6 +207,7 @@ def curl_is_answered(room: Room) -> str | None:
 
 CASES: tuple[Callable[[Room], str | None], ...] = (
     python_keeps_its_connection,
+    a_connection_ends_behind_a_thousand_requests,
     a_large_file_is_refused_and_told,
     who_breaks_off_harms_nobody,
     who_breaks_off_loses_nothing_received,

@@ -55,6 +55,12 @@ class Runs(unittest.TestCase):
         shut = {at: LINE_51 for at in range(3, len(REQUESTS))}
         self.assertIsNone(fault_of(ran(told(shut)), True))
         self.assertIn("more than one", fault_of(ran(told(shut)), False))
+
+    def test_a_question_shuts_no_store(self):
+        shut = {at: LINE_51 for at in range(4, len(REQUESTS))}
+        self.assertIn("more than one", fault_of(ran(told(shut)), True))
+
+    def test_requests_between_refused_ones_are_answered(self):
         self.assertIn("more than one", fault_of(ran(told({3: LINE_51, 5: LINE_51})), True))
 
     def test_a_file_that_was_answered_51_was_not_received(self):

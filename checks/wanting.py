@@ -115,9 +115,12 @@ def ends_early(replies: list[bytes]) -> bool:
 
 
 def is_few(replies: list[bytes], may_shut: bool) -> bool:
-    """Whether one reply at most tells want of memory, or where that may shut a store, all from one on."""
+    """Whether one reply at most tells want of memory, or where that may shut a store, all from one on that wrote: a question writes nothing."""
     wants = [body_of(it) in WANTS for it in replies]
-    return sum(wants) <= 1 or may_shut and all(wants[wants.index(True) :])
+    if sum(wants) <= 1:
+        return True
+    first = wants.index(True)
+    return may_shut and REQUESTS[first].startswith(b"POST ") and all(wants[first:])
 
 
 def fault_of(ran: Ran, may_shut: bool) -> str | None:

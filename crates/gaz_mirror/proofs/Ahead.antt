@@ -45,38 +45,6 @@ ahead_on low above new r x y ahead ok on code tried = record {
 
 -- ---- what is gathered is handed down, or given up
 
-module _ {U : Type 0} (seen : U → Seen) (below new : Seen) (u : U) (g : Gathered) where
-  -- only the lower one is left
-  pub down_alone : {T : Type 0} (r : Result T ShelfFault) (view working : View) → Goes below new r (IsAtHand below.content g.code) (with_working below.content view) None (Open g.code)
-      → (StandApart below (seen u) g → view ≡ working) → Goes (mirrored seen below (Some u) (Some g)) new r ⊤ (with_working below.content working) None (Open g.code)
-  down_alone r view working goes same = record {
-    harm = goes.harm;
-    stands = λ stood _. goes.stands stood.lower stood.at_hand;
-    done = λ stood _ fine. on_ok r (λ e. e ∙ ap (with_working below.content) (same stood)) (goes.done stood.lower stood.at_hand fine);
-    undone = λ stood _. goes.undone stood.lower stood.at_hand;
-    on = goes.on;
-    broken = goes.broken;
-    counts = record { kept = goes.counts.kept; store = goes.counts.store; trust = goes.counts.trust };
-    leaves = λ sound _. goes.leaves (λ fine. (sound fine).lower) (λ fine. (sound fine).at_hand);
-    whole = λ sound _. goes.whole (λ fine. (sound fine).lower) (λ fine. (sound fine).at_hand);
-    committed = λ sound _. goes.committed (λ fine. (sound fine).lower) (λ fine. (sound fine).at_hand);
-  }
-
--- the lower one, where it is left alone
-pub alone_after : {U T : Type 0} (seen : U → Seen) (a d : Seen) (r : Result T ShelfFault) (w : Content) (p : Progress) → Goes a d r ⊤ w None p → Goes a (mirrored seen d None None) r ⊤ w None p
-alone_after seen a d r w p goes = record {
-  harm = goes.harm;
-  stands = goes.stands;
-  done = goes.done;
-  undone = goes.undone;
-  on = goes.on;
-  broken = goes.broken;
-  counts = record { kept = goes.counts.kept; store = goes.counts.store; trust = goes.counts.trust };
-  leaves = goes.leaves;
-  whole = goes.whole;
-  committed = goes.committed;
-}
-
 -- it is given up above, where the lower one is in no judgement
 pub given_up : {U : Type 0} (seen : U → Seen) (below : Seen) (u : U) (g : Gathered) (o : Option U) → below.progress ≡ Idle
     → ForSome o (λ v. (seen u).stands → (seen v).stands × ((seen v).content ≡ after_abandon (seen u).content))
@@ -115,10 +83,21 @@ at_some P v p = λ w is. let same : v ≡ w = cc in subst P same p
 -- ---- in answers
 
 module _ {U : Type 0} (seen : U → Seen) (below new : Seen) (u : U) (g noted : Gathered) (change : Change) (added : Bool) (code : noted.code ≡ g.code) (is : AreThen g.changes.items noted.changes.items added change) where
-  -- a copy with a change more or none comes down
+  -- a copy with a change more or none comes down; only the lower one is left
   pub noted_down : {T : Type 0} (r : Result T ShelfFault) → Goes below new r (IsAtHand below.content noted.code) (with_working below.content (made (last_view below.content.board noted.code) noted.changes.items)) None (Open noted.code)
       → Goes (mirrored seen below (Some u) (Some g)) new r ⊤ (with_working below.content (cond added (makes (seen u).content.working change) (seen u).content.working)) None (Open g.code)
-  noted_down r goes =
-      down_alone seen below new u g r (made (last_view below.content.board g.code) noted.changes.items) (cond added (makes (seen u).content.working change) (seen u).content.working)
-      (subst (λ (c : ℕ). Goes below new r (IsAtHand below.content c) (with_working below.content (made (last_view below.content.board c) noted.changes.items)) None (Open c)) code goes)
-      (λ stood. is (last_view below.content.board g.code) ∙ ap (λ (v : View). cond added (makes v change) v) (sym stood.working))
+  noted_down r down =
+      let goes = subst (λ (c : ℕ). Goes below new r (IsAtHand below.content c) (with_working below.content (made (last_view below.content.board c) noted.changes.items)) None (Open c)) code down in
+      record {
+        harm = goes.harm;
+        stands = λ stood _. goes.stands stood.lower stood.at_hand;
+        done = λ stood _ fine. on_ok r (λ e. e ∙ ap (with_working below.content) (is (last_view below.content.board g.code) ∙ ap (λ (v : View). cond added (makes v change) v) (sym stood.working)))
+            (goes.done stood.lower stood.at_hand fine);
+        undone = λ stood _. goes.undone stood.lower stood.at_hand;
+        on = goes.on;
+        broken = goes.broken;
+        counts = record { kept = goes.counts.kept; store = goes.counts.store; trust = goes.counts.trust };
+        leaves = λ sound _. goes.leaves (λ fine. (sound fine).lower) (λ fine. (sound fine).at_hand);
+        whole = λ sound _. goes.whole (λ fine. (sound fine).lower) (λ fine. (sound fine).at_hand);
+        committed = λ sound _. goes.committed (λ fine. (sound fine).lower) (λ fine. (sound fine).at_hand);
+      }

@@ -1,130 +1,102 @@
 -- What a change of a judgement tells of a keeper over two.
-use Rattle.std.proofs.Common.{◌≡◌, refl, sym, subst, ◌∙◌}
-use Rattle.std.proofs.lemmas.Bool.{false≢true}
-use Rattle.std.specs.Prelude.{◌≢◌, true, Option, None, Some, Result, Ok, Err, OnErr, OnOk, is_ok}
+use Rattle.std.proofs.Common.{◌≡◌, ◌∙◌, true, Err, None, Ok, OnErr, OnOk, Option, Result, Some, is_ok, refl, subst, sym}
 use Rattle.std.specs.Option.{ForSome}
-use Rattle.gaz_keeper.specs.Keeper.{Broken, Content, Enters, Goes, Idle, IsLeft, IsNotOpen, IsSound, LeavesAtMost, LeavesJust, Open, Progress, Seen}
+use Rattle.gaz_views.proofs.Outcomes.{on_ok}
+use Rattle.gaz_keeper.specs.Keeper.{Broken, Content, Enters, Goes, Idle, IsLeft, IsNotOpen, IsSound, LeavesAtMost, LeavesJust, Progress, Seen}
 use Rattle.gaz_keeper.specs.declared.fault.ShelfFault.{ShelfFault}
 use Rattle.gaz_mirror.specs.InStep.{IsInStep}
-use Rattle.gaz_mirror.specs.Mirroring.{mirrored, progress_with, stands_below}
+use Rattle.gaz_mirror.specs.Mirroring.{StandsWith, mirrored, progress_with, stands_below}
 use Rattle.gaz_mirror.specs.declared.gathered.Gathered.{Gathered}
 use Rattle.gaz_mirror.proofs.Ahead.{at_some, where_ok}
+use Rattle.gaz_mirror.proofs.Readings.{left_same}
 
-module _ {U : Type 0} (seen : U → Seen) (old new : Seen) (was now : Option U) where
-  -- what the lower one leaves, both leave
+-- where the lower one is changed, and both stand after it as they stood before
+module _ {U T : Type 0} (seen : U → Seen) (old new : Seen) (was now : Option U) (r : Result T ShelfFault) (asked : Type 0) (becomes : Content)
+    (both : StandsWith seen old was None → asked → new.unharmed → StandsWith seen new now None) where
   leaves_at_most : (commits : Option Content) → LeavesAtMost commits old new → LeavesAtMost commits (mirrored seen old was None) (mirrored seen new now None)
   leaves_at_most None h = h
-  leaves_at_most (Some becomes) h = h
+  leaves_at_most (Some k) h = h
 
-  leaves_just : {T : Type 0} (r : Result T ShelfFault) (commits : Option Content) → OnOk r (LeavesJust commits old new)
-      → OnOk r (LeavesJust commits (mirrored seen old was None) (mirrored seen new now None))
-  leaves_just (Ok x) None h = h
-  leaves_just (Ok x) (Some becomes) h = h
-  leaves_just (Err e) commits h = h
+  leaves_just : (commits : Option Content) → LeavesJust commits old new → LeavesJust commits (mirrored seen old was None) (mirrored seen new now None)
+  leaves_just None h = h
+  leaves_just (Some k) h = h
 
   -- it is sound where both are
   from_below : IsSound (mirrored seen old was None) → IsSound old
   from_below sound fine = stands_below seen old was None (sound fine)
 
+  goes_mirrored : (commits : Option Content) (after : Progress) → Goes old new r asked becomes commits after → Goes (mirrored seen old was None) (mirrored seen new now None) r asked becomes commits after
+  goes_mirrored commits after goes = record {
+    harm = goes.harm;
+    stands = both;
+    done = λ stood. goes.done (stands_below seen old was None stood);
+    undone = λ stood. goes.undone (stands_below seen old was None stood);
+    on = goes.on;
+    broken = goes.broken;
+    counts = record { kept = goes.counts.kept; store = goes.counts.store; trust = goes.counts.trust };
+    leaves = λ sound met. leaves_at_most commits (goes.leaves (from_below sound) met);
+    whole = λ sound. goes.whole (from_below sound);
+    committed = λ sound met. on_ok r (leaves_just commits) (goes.committed (from_below sound) met);
+  }
+
+  enters_mirrored : Enters old new r asked becomes → Enters (mirrored seen old was None) (mirrored seen new now None) r asked becomes
+  enters_mirrored enters = record {
+    harm = enters.harm;
+    stands = both;
+    done = λ stood. enters.done (stands_below seen old was None stood);
+    undone = λ stood. enters.undone (stands_below seen old was None stood);
+    progress = enters.progress;
+    cleared = enters.cleared;
+    counts = record { kept = enters.counts.kept; store = enters.counts.store; trust = enters.counts.trust };
+    leaves = λ sound met. leaves_at_most (Some becomes) (enters.leaves (from_below sound) met);
+    whole = λ sound. enters.whole (from_below sound);
+    committed = λ sound met. on_ok r (leaves_just (Some becomes)) (enters.committed (from_below sound) met);
+  }
+
+-- a call's content stands, and is what it should become
+abbrev Stands : {T : Type 0} → Seen → Seen → Result T ShelfFault → Type 0 → Content → Type 0
+Stands old new r asked becomes = old.stands → asked → new.unharmed → new.stands × OnOk r (new.content ≡ becomes)
+
+-- both were changed alike
+both_stand : {U T : Type 0} (seen : U → Seen) (sole : (u : U) → (seen u).unharmed) (old new : Seen) (upper : Option U) (was now : U) (r r' : Result T ShelfFault) (asked asked' : Type 0)
+    (becomes becomes' : Content) → upper ≡ Some was → is_ok r ≡ true → is_ok r' ≡ true → Stands old new r asked becomes → Stands (seen was) (seen now) r' asked' becomes'
+    → ((seen was).content ≡ old.content → asked → asked') → ((seen was).content ≡ old.content → becomes' ≡ becomes)
+    → StandsWith seen old upper None → asked → new.unharmed → StandsWith seen new (Some now) None
+both_stand seen sole old new upper was now r r' asked asked' becomes becomes' is ok ok' below above asks same =
+    subst (λ o. StandsWith seen old o None → asked → new.unharmed → StandsWith seen new (Some now) None) (sym is)
+    (λ stood met fine.
+    let lower = below stood.lower met fine in
+    let upper = above stood.upper (asks stood.same met) (sole now) in
+    record { lower = lower.0; upper = upper.0; same = where_ok r' ok' upper.1 ∙ same stood.same ∙ sym (where_ok r ok lower.1) })
+
 -- only the lower one is left
 pub goes_below : {U T : Type 0} (seen : U → Seen) (old new : Seen) (was : Option U) (r : Result T ShelfFault) (asked : Type 0) (becomes : Content) (commits : Option Content) (after : Progress)
     → Goes old new r asked becomes commits after → Goes (mirrored seen old was None) (mirrored seen new None None) r asked becomes commits after
-goes_below seen old new was r asked becomes commits after goes = record {
-  harm = goes.harm;
-  stands = λ stood. goes.stands (stands_below seen old was None stood);
-  done = λ stood. goes.done (stands_below seen old was None stood);
-  undone = λ stood. goes.undone (stands_below seen old was None stood);
-  on = goes.on;
-  broken = goes.broken;
-  counts = record { kept = goes.counts.kept; store = goes.counts.store; trust = goes.counts.trust };
-  leaves = λ sound met. leaves_at_most seen old new was None commits (goes.leaves (from_below seen old new was None sound) met);
-  whole = λ sound. goes.whole (from_below seen old new was None sound);
-  committed = λ sound met. leaves_just seen old new was None r commits (goes.committed (from_below seen old new was None sound) met);
-}
+goes_below seen old new was r asked becomes commits after goes =
+    goes_mirrored seen old new was None r asked becomes (λ stood. goes.stands (stands_below seen old was None stood)) commits after goes
+
+pub enters_below : {U T : Type 0} (seen : U → Seen) (old new : Seen) (was : Option U) (r : Result T ShelfFault) (asked : Type 0) (becomes : Content)
+    → Enters old new r asked becomes → Enters (mirrored seen old was None) (mirrored seen new None None) r asked becomes
+enters_below seen old new was r asked becomes enters =
+    enters_mirrored seen old new was None r asked becomes (λ stood. enters.stands (stands_below seen old was None stood)) enters
 
 -- both were changed
-both : {U T : Type 0} (seen : U → Seen) (sole : (u : U) → (seen u).unharmed) (old new : Seen) (was now : U) (r r' : Result T ShelfFault) (asked asked' : Type 0)
-    (becomes becomes' : Content) (commits commits' : Option Content) (after after' : Progress) → is_ok r ≡ true → is_ok r' ≡ true
-    → Goes old new r asked becomes commits after → Goes (seen was) (seen now) r' asked' becomes' commits' after'
-    → ((seen was).content ≡ old.content → asked → asked') → ((seen was).content ≡ old.content → becomes' ≡ becomes)
-    → Goes (mirrored seen old (Some was) None) (mirrored seen new (Some now) None) r asked becomes commits after
-both seen sole old new was now (Ok x) (Ok y) asked asked' becomes becomes' commits commits' after after' ok ok' goes above asks same = record {
-  harm = goes.harm;
-  stands = λ stood met fine. record {
-    lower = goes.stands stood.lower met fine;
-    upper = above.stands stood.upper (asks stood.same met) (sole now);
-    same = above.done stood.upper (asks stood.same met) (sole now) ∙ same stood.same ∙ sym (goes.done stood.lower met fine);
-  };
-  done = λ stood. goes.done stood.lower;
-  undone = λ _ _ _. tt;
-  on = goes.on;
-  broken = tt;
-  counts = record { kept = goes.counts.kept; store = tt; trust = goes.counts.trust };
-  leaves = λ sound met. leaves_at_most seen old new (Some was) (Some now) commits (goes.leaves (λ fine. (sound fine).lower) met);
-  whole = λ sound. goes.whole (λ fine. (sound fine).lower);
-  committed = λ sound met. leaves_just seen old new (Some was) (Some now) (Ok x) commits (goes.committed (λ fine. (sound fine).lower) met);
-}
-both seen sole old new was now (Ok x) (Err e) asked asked' becomes becomes' commits commits' after after' ok ok' goes above asks same = absurd (false≢true ok')
-both seen sole old new was now (Err e) r' asked asked' becomes becomes' commits commits' after after' ok ok' goes above asks same = absurd (false≢true ok)
-
 pub goes_both : {U T : Type 0} (seen : U → Seen) (sole : (u : U) → (seen u).unharmed) (old new : Seen) (upper : Option U) (was now : U) (r r' : Result T ShelfFault) (asked asked' : Type 0)
     (becomes becomes' : Content) (commits commits' : Option Content) (after after' : Progress) → upper ≡ Some was → is_ok r ≡ true → is_ok r' ≡ true
     → Goes old new r asked becomes commits after → Goes (seen was) (seen now) r' asked' becomes' commits' after'
     → ((seen was).content ≡ old.content → asked → asked') → ((seen was).content ≡ old.content → becomes' ≡ becomes)
     → Goes (mirrored seen old upper None) (mirrored seen new (Some now) None) r asked becomes commits after
 goes_both seen sole old new upper was now r r' asked asked' becomes becomes' commits commits' after after' is ok ok' goes above asks same =
-    subst (λ o. Goes (mirrored seen old o None) (mirrored seen new (Some now) None) r asked becomes commits after) (sym is)
-    (both seen sole old new was now r r' asked asked' becomes becomes' commits commits' after after' ok ok' goes above asks same)
-
--- ---- a call while no judgement is in progress
-
--- only the lower one is left
-pub enters_below : {U T : Type 0} (seen : U → Seen) (old new : Seen) (was : Option U) (r : Result T ShelfFault) (asked : Type 0) (becomes : Content)
-    → Enters old new r asked becomes → Enters (mirrored seen old was None) (mirrored seen new None None) r asked becomes
-enters_below seen old new was r asked becomes enters = record {
-  harm = enters.harm;
-  stands = λ stood. enters.stands (stands_below seen old was None stood);
-  done = λ stood. enters.done (stands_below seen old was None stood);
-  undone = λ stood. enters.undone (stands_below seen old was None stood);
-  progress = enters.progress;
-  cleared = enters.cleared;
-  counts = record { kept = enters.counts.kept; store = enters.counts.store; trust = enters.counts.trust };
-  leaves = λ sound met. leaves_at_most seen old new was None (Some becomes) (enters.leaves (from_below seen old new was None sound) met);
-  whole = λ sound. enters.whole (from_below seen old new was None sound);
-  committed = λ sound met. leaves_just seen old new was None r (Some becomes) (enters.committed (from_below seen old new was None sound) met);
-}
-
--- both were changed
-both_enter : {U T : Type 0} (seen : U → Seen) (sole : (u : U) → (seen u).unharmed) (old new : Seen) (was now : U) (r r' : Result T ShelfFault) (asked asked' : Type 0)
-    (becomes becomes' : Content) → is_ok r ≡ true → is_ok r' ≡ true → Enters old new r asked becomes → Enters (seen was) (seen now) r' asked' becomes'
-    → ((seen was).content ≡ old.content → asked → asked') → ((seen was).content ≡ old.content → becomes' ≡ becomes)
-    → Enters (mirrored seen old (Some was) None) (mirrored seen new (Some now) None) r asked becomes
-both_enter seen sole old new was now (Ok x) (Ok y) asked asked' becomes becomes' ok ok' enters above asks same = record {
-  harm = enters.harm;
-  stands = λ stood met fine. record {
-    lower = enters.stands stood.lower met fine;
-    upper = above.stands stood.upper (asks stood.same met) (sole now);
-    same = above.done stood.upper (asks stood.same met) (sole now) ∙ same stood.same ∙ sym (enters.done stood.lower met fine);
-  };
-  done = λ stood. enters.done stood.lower;
-  undone = λ _ _ _. tt;
-  progress = enters.progress;
-  cleared = enters.cleared;
-  counts = record { kept = enters.counts.kept; store = tt; trust = enters.counts.trust };
-  leaves = λ sound met. leaves_at_most seen old new (Some was) (Some now) (Some becomes) (enters.leaves (λ fine. (sound fine).lower) met);
-  whole = λ sound. enters.whole (λ fine. (sound fine).lower);
-  committed = λ sound met. leaves_just seen old new (Some was) (Some now) (Ok x) (Some becomes) (enters.committed (λ fine. (sound fine).lower) met);
-}
-both_enter seen sole old new was now (Ok x) (Err e) asked asked' becomes becomes' ok ok' enters above asks same = absurd (false≢true ok')
-both_enter seen sole old new was now (Err e) r' asked asked' becomes becomes' ok ok' enters above asks same = absurd (false≢true ok)
+    goes_mirrored seen old new upper (Some now) r asked becomes (both_stand seen sole old new upper was now r r' asked asked' becomes becomes' is ok ok'
+    (λ stood met fine. (goes.stands stood met fine, goes.done stood met fine)) (λ stood met fine. (above.stands stood met fine, above.done stood met fine)) asks same) commits after goes
 
 pub enters_both : {U T : Type 0} (seen : U → Seen) (sole : (u : U) → (seen u).unharmed) (old new : Seen) (upper : Option U) (was now : U) (r r' : Result T ShelfFault) (asked asked' : Type 0)
     (becomes becomes' : Content) → upper ≡ Some was → is_ok r ≡ true → is_ok r' ≡ true → Enters old new r asked becomes → Enters (seen was) (seen now) r' asked' becomes'
     → ((seen was).content ≡ old.content → asked → asked') → ((seen was).content ≡ old.content → becomes' ≡ becomes)
     → Enters (mirrored seen old upper None) (mirrored seen new (Some now) None) r asked becomes
 enters_both seen sole old new upper was now r r' asked asked' becomes becomes' is ok ok' enters above asks same =
-    subst (λ o. Enters (mirrored seen old o None) (mirrored seen new (Some now) None) r asked becomes) (sym is)
-    (both_enter seen sole old new was now r r' asked asked' becomes becomes' ok ok' enters above asks same)
+    enters_mirrored seen old new upper (Some now) r asked becomes (both_stand seen sole old new upper was now r r' asked asked' becomes becomes' is ok ok'
+    (λ stood met fine. (enters.stands stood met fine, enters.done stood met fine)) (λ stood met fine. (above.stands stood met fine, above.done stood met fine)) asks same) enters
 
 -- ---- where nothing is gathered
 
@@ -153,42 +125,23 @@ settled lower (Some g) closed = absurd (closed g.code refl)
 -- what went well told of no fault
 pub no_fault : {T : Type 0} (P : Type 0) (r : Result T ShelfFault) → is_ok r ≡ true → OnErr r P
 no_fault P (Ok x) ok = tt
-no_fault P (Err e) ok = absurd (false≢true ok)
-
--- nothing is said of what isn't there
-pub for_none : {A : Type 0} (P : A → Type 0) (o : Option A) → o ≡ None → ForSome o P
-for_none P None is = λ x there. cc
-for_none P (Some y) is = cc
-
-idle_is_whole : (p : Progress) → p ≡ Idle → p ≢ Broken
-idle_is_whole p idle broken = let clash : Idle ≡ Broken = sym idle ∙ broken in cc
+no_fault P (Err e) ok = cc
 
 -- two keepers are in step where both have ended a judgement
 pub in_step_ended : {U : Type 0} (seen : U → Seen) (low : Progress) (now : U) (r r' : Result (Unit {0}) ShelfFault) → is_ok r ≡ true → is_ok r' ≡ true → OnOk r (low ≡ Idle) → OnOk r' ((seen now).progress ≡ Idle)
     → ForSome (Some now) (λ u. IsInStep low (seen u).progress)
 in_step_ended seen low now r r' ok ok' below above =
     let lower : low ≡ Idle = where_ok r ok below in
-    at_some (λ u. IsInStep low (seen u).progress) now (record { same = where_ok r' ok' above ∙ sym lower; whole = idle_is_whole low lower })
+    at_some (λ u. IsInStep low (seen u).progress) now (record { same = where_ok r' ok' above ∙ sym lower; whole = λ broken. let clash : Idle ≡ Broken = sym lower ∙ broken in cc })
 
-left_in_step : (p low above : Progress) → IsNotOpen p → p ≢ Broken → IsLeft p low → IsLeft p above → IsInStep low above
-left_in_step Idle low above closed whole below up = record { same = up ∙ sym below; whole = idle_is_whole low below }
-left_in_step (Open c) low above closed whole below up = absurd (closed c refl)
-left_in_step Broken low above closed whole below up = absurd (whole refl)
-
--- two that were in step are so after a call while no judgement is in progress
-pub in_step_left : {U : Type 0} (seen : U → Seen) (was low : Progress) (before now : U) → IsNotOpen was → IsInStep was (seen before).progress → IsLeft was low → IsLeft (seen before).progress (seen now).progress
+-- two that were in step are so after a call that changes the progress of neither
+pub in_step_on : {U : Type 0} (seen : U → Seen) (was low : Progress) (before now : U) → IsInStep was (seen before).progress → low ≡ was → (seen now).progress ≡ (seen before).progress
     → ForSome (Some now) (λ u. IsInStep low (seen u).progress)
-in_step_left seen was low before now closed step below above =
-    at_some (λ u. IsInStep low (seen u).progress) now (left_in_step was low (seen now).progress closed step.whole below (subst (λ (p : Progress). IsLeft p (seen now).progress) step.same above))
+in_step_on seen was low before now step below above =
+    at_some (λ u. IsInStep low (seen u).progress) now (record { same = above ∙ step.same ∙ sym below; whole = λ broken. step.whole (sym below ∙ broken) })
 
--- and after a change that both made of their working views
-pub in_step_on : {U : Type 0} (seen : U → Seen) (was low : Progress) (before now : U) (r r' : Result (Unit {0}) ShelfFault) → is_ok r ≡ true → is_ok r' ≡ true → IsInStep was (seen before).progress → OnOk r (low ≡ was) → OnOk r' ((seen now).progress ≡ (seen before).progress)
+-- and after one that would change it of a broken one alone
+pub in_step_left : {U : Type 0} (seen : U → Seen) (was low : Progress) (before now : U) → IsInStep was (seen before).progress → IsLeft was low → IsLeft (seen before).progress (seen now).progress
     → ForSome (Some now) (λ u. IsInStep low (seen u).progress)
-in_step_on seen was low before now r r' ok ok' step below above =
-    let lower : low ≡ was = where_ok r ok below in
-    at_some (λ u. IsInStep low (seen u).progress) now (record { same = where_ok r' ok' above ∙ step.same ∙ sym lower; whole = λ broken. step.whole (sym lower ∙ broken) })
-
--- where the two are in no judgement, the lower one isn't
-pub closed_below : (lower : Progress) (gathered : Option Gathered) → IsNotOpen (progress_with lower gathered) → IsNotOpen lower
-closed_below lower None closed = closed
-closed_below lower (Some g) closed = absurd (closed g.code refl)
+in_step_left seen was low before now step below above =
+    in_step_on seen was low before now step (left_same _ _ step.whole below) (left_same _ _ (λ broken. step.whole (sym step.same ∙ broken)) above)

@@ -1,6 +1,5 @@
 -- What a reading of either keeper tells of both.
-use Rattle.std.proofs.Common.{◌≡◌, ◌≢◌, ◌≤◌, ◌∙◌, ℕ, ap, le_trans, refl, subst, sym}
-use Rattle.std.specs.Prelude.{Option, None, Some, Result, Ok, Err, IfOk}
+use Rattle.std.proofs.Common.{◌≡◌, ◌≢◌, ◌≤◌, ◌∙◌, ℕ, IfOk, None, Option, Result, Some, ap, le_trans, refl, subst, sym}
 use Rattle.gaz_views.specs.View.{View}
 use Rattle.gaz_keeper.specs.Keeper.{Broken, Content, Idle, IsLeft, IsNotOpen, Keeps, Open, Progress, Reads, Seen, after_stop, view_of, viewed, with_working}
 use Rattle.gaz_keeper.specs.declared.fault.ShelfFault.{ShelfFault}
@@ -82,10 +81,6 @@ module _ {U T : Type 0} (seen : U → Seen) (old new : Seen) (upper : Option U) 
     counts = record { kept = reads.counts.kept; store = reads.counts.store; trust = reads.counts.trust };
   }
 
-renamed : {T : Type 0} (r : Result T ShelfFault) (P : Content → (ℕ → View) → T → Type 0) (k l : Content) (v w : ℕ → View) → k ≡ l → v ≡ w → IfOk r (P k v) → IfOk r (P l w)
-renamed (Ok t) P k l v w same views h = subst (λ (x : Content × (ℕ → View)). P x.0 x.1 t) (λ i. (same i, views i)) h
-renamed (Err e) P k l v w same views h = tt
-
 -- one behind what keeps all
 pub reads_behind : {T : Type 0} (a b d : Seen) (r : Result T ShelfFault) (P : Content → (ℕ → View) → T → Type 0) → Keeps a b → a.failures ≤ b.failures → (b.trusted → a.trusted)
     → Reads b d r (P b.content (view_of b)) → Reads a d r (P a.content (view_of a))
@@ -94,7 +89,7 @@ reads_behind a b d r P keeps counted trust reads = record {
   right = λ stood fine.
       let before = reads.keeps.harm fine in
       let same = keeps.content stood before in
-      renamed r P b.content a.content (view_of b) (view_of a) same (same_views a b keeps.progress same) (reads.right (keeps.stands stood before) fine);
+      subst (λ (x : Content × (ℕ → View)). IfOk r (P x.0 x.1)) (λ i. (same i, same_views a b keeps.progress same i)) (reads.right (keeps.stands stood before) fine);
   cleared = reads.cleared;
   counts = record {
     kept = le_trans counted reads.counts.kept;

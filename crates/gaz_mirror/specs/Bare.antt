@@ -1,6 +1,5 @@
 -- A keeper at rest has no working view.
 use Rattle.std.specs.Prelude.{◌≡◌, ℕ, List, refl}
-use Rattle.std.proofs.Common.{subst}
 use Rattle.gaz_keeper.specs.Keeper.{Broken, Content, Idle, Open, Progress, Seen}
 use Rattle.gaz_shelf.specs.Faulting.{content_around}
 use Rattle.gaz_shelf.specs.Mem.{progress_of, working_of}
@@ -13,22 +12,16 @@ use Rattle.gaz_views.specs.View.{empty_view}
 abbrev pub RestsBare : {K : Type 0} → (K → Seen) → Type 0
 RestsBare {K} seen = (k : K) → (seen k).progress ≡ Idle → (seen k).content.working ≡ empty_view
 
--- an open judgement is in progress
-abbrev IsOpened : Progress → Type 0
-IsOpened Idle = ⊥
-IsOpened (Open c) = Unit {0}
-IsOpened Broken = ⊥
-
 -- a keeper in memory
 pub bare_in : (j : Judging) (es : List (ℕ × Account)) → progress_of j ≡ Idle
     → working_of j es ≡ empty_view
 bare_in judging.Idle es is = refl
-bare_in (judging.Open c) es is = absurd (subst IsOpened is tt)
+bare_in (judging.Open c) es is = cc
 bare_in judging.Broken es is = refl
 
 -- a keeper around another
 pub bare_around : (p : Progress) (k : Content) → p ≡ Idle
     → (content_around p k).working ≡ empty_view
 bare_around Idle k is = refl
-bare_around (Open c) k is = absurd (subst IsOpened is tt)
+bare_around (Open c) k is = cc
 bare_around Broken k is = refl

@@ -1,6 +1,6 @@
 -- Worked examples, computed from the definitions.
-use Rattle.std.specs.Prelude.{◌≡◌, ◌≢◌, refl, true, false, [], ◌∷◌}
-use Rattle.std.specs.Prelude.{None, Some, Option, Ok, Err}
+use Rattle.std.specs.Prelude.{◌≡◌, ◌≢◌, refl, true, false, [], ◌∷◌, None, Some, Option, Ok, Err}
+use Rattle.std.proofs.lemmas.Option.{none-some}
 use Rattle.std.specs.declared.alloc.Global.{Global}
 use Rattle.gaz_keeper.specs.Examples.{first_received, kept_safe}
 use Rattle.gaz_keeper.specs.Keeper.{Broken, Content, Idle, Open, Seen, after_stop, empty_content}
@@ -9,8 +9,7 @@ use Rattle.gaz_keeper.specs.declared.fault.ShelfFault.TheVariants.{Store}
 use Rattle.gaz_keeper.specs.declared.shelf.Shelf.{Ghosts}
 use Rattle.gaz_mirror.specs.Gathering.{AreThen, IsSameChange, made}
 use Rattle.gaz_mirror.specs.InStep.{IsAhead, IsInStep}
-use Rattle.gaz_mirror.specs.Mirrored.{DropsUpper, Gathers, KeepsUpper, SparesLower}
-use Rattle.gaz_mirror.specs.Mirrored.{seen_mirrored}
+use Rattle.gaz_mirror.specs.Mirrored.{DropsUpper, Gathers, KeepsUpper, SparesLower, seen_mirrored}
 use Rattle.gaz_mirror.specs.Mirroring.{mirrored}
 use Rattle.gaz_mirror.specs.declared.gathered.Change.{Change}
 use Rattle.gaz_mirror.specs.declared.gathered.Change.TheVariants.{Adopt, Put, Release, Take}
@@ -20,7 +19,7 @@ use Rattle.gaz_records.specs.declared.item.Item.TheVariants as item
 use Rattle.gaz_records.specs.declared.key.Key.TheVariants as key
 use Rattle.gaz_views.specs.CustodyExamples.{alone, given_back, given_up, taken}
 use Rattle.gaz_views.specs.Examples.{no_more, one_street, street}
-use Rattle.gaz_views.specs.View.{empty_view}
+use Rattle.gaz_views.specs.View.{View, empty_view}
 
 -- ---- what is gathered
 
@@ -98,9 +97,6 @@ contents = record { seen = kept_safe }
 pub idle_is_whole : Idle ≢ Broken
 idle_is_whole is = cc
 
-pub none_is_none : {X : Type 0} (x : X) → ¬ (◌≡◌ {A = Option X} None (Some x))
-none_is_none x is = cc
-
 -- a keeper over one such or two, of which none is judging
 abbrev pub over : Global → Content → Option Content → Mirror Content Content contents contents
 over alloc lower upper = record {
@@ -109,8 +105,8 @@ over alloc lower upper = record {
   gathered = None;
   alloc = alloc;
   in_step = λ none u is. record { same = refl; whole = idle_is_whole };
-  at_hand = λ g is. absurd (none_is_none g is);
-  ahead = λ g is. absurd (none_is_none g is);
+  at_hand = λ g is. absurd (none-some g is);
+  ahead = λ g is. absurd (none-some g is);
 }
 
 -- where both have one content, it is seen as that; where not, it stands for nothing
@@ -129,26 +125,16 @@ abbrev pub gathered_above : Gathered → Content → Seen
 gathered_above gathered above =
     mirrored kept_safe (kept_safe first_received) (Some above) (Some gathered)
 
--- the first volume of 1001 is judged, of which street 101 came and went
-pub record WorkedGathered (gathered : Gathered) (of_1001 : gathered.code ≡ 1001)
-    (these : gathered.changes.items ≡ comes ∷ goes ∷ []) : Type 0 where
-  pub stands : (gathered_above gathered (with_working first_received no_more)).stands
-  pub content : (gathered_above gathered (with_working first_received no_more)).content
-      ≡ with_working first_received no_more
-  pub progress : (gathered_above gathered (with_working first_received no_more)).progress
-      ≡ Open 1001
-  pub stops : (gathered_above gathered (with_working first_received no_more)).leaves
+-- the first volume of 1001 is judged, and what is gathered of it makes this view and not another
+pub record WorkedGathered (gathered : Gathered) (view another : View) : Type 0 where
+  pub stands : (gathered_above gathered (with_working first_received view)).stands
+  pub content : (gathered_above gathered (with_working first_received view)).content
+      ≡ with_working first_received view
+  pub progress : (gathered_above gathered (with_working first_received view)).progress ≡ Open 1001
+  pub stops : (gathered_above gathered (with_working first_received view)).leaves
       (after_stop first_received)
-  pub not_these : ¬ (gathered_above gathered (with_working first_received one_street)).stands
-  pub no_file : ¬ (gathered_above gathered (with_working empty_content no_more)).stands
-
--- of which property 500 was adopted and given back
-pub record WorkedPassedOn (gathered : Gathered) (of_1001 : gathered.code ≡ 1001)
-    (these : gathered.changes.items ≡ takes ∷ gives_back ∷ []) : Type 0 where
-  pub stands : (gathered_above gathered (with_working first_received given_back)).stands
-  pub content : (gathered_above gathered (with_working first_received given_back)).content
-      ≡ with_working first_received given_back
-  pub not_these : ¬ (gathered_above gathered (with_working first_received taken)).stands
+  pub not_another : ¬ (gathered_above gathered (with_working first_received another)).stands
+  pub no_file : ¬ (gathered_above gathered (with_working empty_content view)).stands
 
 -- what a call leaves of the two
 pub record WorkedCalls (alloc : Global) : Type 0 where
@@ -157,8 +143,7 @@ pub record WorkedCalls (alloc : Global) : Type 0 where
   pub none_to_keep : KeepsUpper (over alloc empty_content None) (over alloc first_received None)
   pub not_kept : ¬ KeepsUpper (over alloc first_received (Some first_received))
       (over alloc first_received None)
-  pub answered : DropsUpper {T = Unit {0}} (Ok tt)
-      (over alloc first_received (Some first_received))
+  pub answered : DropsUpper {T = Unit {0}} (Ok tt) (over alloc first_received (Some first_received))
   pub dropped : DropsUpper {T = Unit {0}} (Err Store) (over alloc first_received None)
   pub not_dropped : ¬ DropsUpper {T = Unit {0}} (Err Store)
       (over alloc first_received (Some first_received))
@@ -173,12 +158,10 @@ pub record WorkedExamples : Type 0 where
   pub on_changes : WorkedChanges
   pub on_passing : WorkedPassing
   pub on_steps : WorkedSteps
-  pub on_leads : (gathered : Gathered) (of_one : gathered.code ≡ 1)
-      → WorkedLeads gathered of_one
+  pub on_leads : (gathered : Gathered) (of_one : gathered.code ≡ 1) → WorkedLeads gathered of_one
   pub on_mirrors : (alloc : Global) → WorkedMirrors alloc
-  pub on_gathered : (gathered : Gathered) (of_1001 : gathered.code ≡ 1001)
-      (these : gathered.changes.items ≡ comes ∷ goes ∷ []) → WorkedGathered gathered of_1001 these
-  pub on_passed_on : (gathered : Gathered) (of_1001 : gathered.code ≡ 1001)
-      (these : gathered.changes.items ≡ takes ∷ gives_back ∷ [])
-      → WorkedPassedOn gathered of_1001 these
+  pub on_gathered : (gathered : Gathered) → gathered.code ≡ 1001
+      → gathered.changes.items ≡ comes ∷ goes ∷ [] → WorkedGathered gathered no_more one_street
+  pub on_passed_on : (gathered : Gathered) → gathered.code ≡ 1001
+      → gathered.changes.items ≡ takes ∷ gives_back ∷ [] → WorkedGathered gathered given_back taken
   pub on_calls : (alloc : Global) → WorkedCalls alloc

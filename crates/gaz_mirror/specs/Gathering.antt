@@ -5,20 +5,15 @@ use Rattle.gaz_keeper.specs.Keeper.{Seen, Sets}
 use Rattle.gaz_keeper.specs.declared.fault.ShelfFault.{ShelfFault}
 use Rattle.gaz_views.specs.Numbered.{as_blpu}
 use Rattle.gaz_views.specs.View.{View, with_adoption, with_item, with_release, without_key}
-use Rattle.gaz_mirror.specs.declared.gathered.Adoption.{Adoption}
 use Rattle.gaz_mirror.specs.declared.gathered.Change.{Change}
 use Rattle.gaz_mirror.specs.declared.gathered.Change.TheVariants.{Adopt, Put, Release, Take}
 
--- the view with a BLPU adopted; of another item nothing would become
-abbrev pub adopted : View → Adoption → View
-adopted view a = option_map_or (λ b. with_adoption view b a.from a.hop) (as_blpu a.blpu) view
-
--- the view with a change made
+-- the view with a change made; were what is adopted no BLPU, the view would stay as it is
 abbrev pub makes : View → Change → View
 makes view (Put entry) = with_item view entry.item
 makes view (Take key) = without_key view key
 makes view (Release uprn to hop) = with_release view uprn to hop
-makes view (Adopt adoption) = adopted view adoption
+makes view (Adopt a) = option_map_or (λ b. with_adoption view b a.from a.hop) (as_blpu a.blpu) view
 
 -- with these changes made, one after another
 abbrev pub made : View → List Change → View
@@ -34,8 +29,7 @@ AreSameChanges some others = (view : View) → made view others ≡ made view so
 
 -- these make what those made, and then this change where it was added
 abbrev pub AreThen : List Change → List Change → Bool → Change → Type 0
-AreThen some others added change =
-    (view : View) → made view others
+AreThen some others added change = (view : View) → made view others
     ≡ (if added then makes (made view some) change else made view some)
 
 -- a keeper's call makes a change of its working view

@@ -44,7 +44,7 @@ content_of seen k None (Some gathered) = k
 content_of seen k (Some upper) (Some gathered) = with_working k (seen upper).content.working
 
 -- it is lawful where both are
-pub lawful_with : {U : Type 0} (seen : U → Seen) (lower : Seen) (upper : Option U)
+unfoldable pub lawful_with : {U : Type 0} (seen : U → Seen) (lower : Seen) (upper : Option U)
     (gathered : Option Gathered) → StandsWith seen lower upper gathered
     → IsLawful (content_of seen lower.content upper gathered)
 lawful_with seen lower None None stood = lower.lawful stood

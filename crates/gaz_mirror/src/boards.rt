@@ -1,16 +1,13 @@
 //! The calls of a keeper over two that concern boards.
-ghost use Rattle.std.specs.Prelude.{◌≡◌, ◌≢◌, true};
-ghost use Rattle.std.specs.Option.{IsSome};
+ghost use Rattle.std.specs.Prelude.{◌≡◌, ◌≢◌, true, IsSome};
 ghost use Rattle.gaz_records.specs.Items.{is_entry};
 ghost use Rattle.gaz_records.specs.Kinds.{is_entry_kind};
 ghost use Rattle.gaz_views.specs.Numbered.{as_blpu};
 ghost use Rattle.gaz_keeper.specs.Keeper.{Idle, IsNotOpen, Refuses};
 ghost use Rattle.gaz_keeper.specs.Telling.{Abandons, Adopts, Applies, Begins, Puts, Releases};
-ghost use Rattle.gaz_keeper.specs.Telling.{Skips, Takes};
-ghost use Rattle.gaz_keeper.specs.Telling.{TellsApprovedOf, TellsApprovedOn, TellsAt};
-ghost use Rattle.gaz_keeper.specs.Telling.{TellsChildren};
-ghost use Rattle.gaz_keeper.specs.Telling.{TellsCurrent, TellsCustody, TellsCustodyAt};
-ghost use Rattle.gaz_keeper.specs.Telling.{TellsEver, TellsPage, TellsPropertyOf};
+ghost use Rattle.gaz_keeper.specs.Telling.{Skips, Takes, TellsApprovedOf, TellsApprovedOn, TellsAt};
+ghost use Rattle.gaz_keeper.specs.Telling.{TellsChildren, TellsCurrent, TellsCustody};
+ghost use Rattle.gaz_keeper.specs.Telling.{TellsCustodyAt, TellsEver, TellsPage, TellsPropertyOf};
 ghost use Rattle.gaz_keeper.specs.Telling.{TellsReached, TellsTied, TellsVerdict};
 ghost use Rattle.gaz_mirror.specs.Mirrored.{DropsUpper, Gathers, KeepsUpper, SparesLower};
 ghost use Rattle.gaz_mirror.specs.Mirrored.{seen_mirrored};

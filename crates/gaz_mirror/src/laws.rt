@@ -1,9 +1,7 @@
 //! What a reader of the definitions may rely on.
 ghost use Rattle.std.specs.Prelude.{◌≡◌, Some, IfOk, option_map};
-ghost use Rattle.std.specs.FinMap as map;
 ghost use Rattle.gaz_keeper.specs.Keeper.{IsNew, IsNotOpen};
 ghost use Rattle.gaz_mirror.specs.Examples.{WorkedExamples};
-ghost use Rattle.gaz_mirror.specs.Mirrored.{seen_mirrored};
 
 use crate::mirror::Mirror;
 use gaz_ids::{Code, Volume};
@@ -27,7 +25,7 @@ pub fn finds_what_it_received(
     receive_and_find(&mut mirror, code, volume, bytes)
 }
 
-// Over any keeper.
+// Over any keeper: a new file is received, and asked for at once.
 fn receive_and_find<K: Inbox>(
     keeper: &mut K,
     code: Code,

@@ -1,5 +1,5 @@
 //! What a keeper can be asked of its board.
-ghost use Rattle.std.specs.Prelude.{◌≡◌, ℕ};
+ghost use Rattle.std.specs.Prelude.{ℕ};
 ghost use Rattle.gaz_keeper.specs.Keeper.{Content, Reads, view_of};
 ghost use Rattle.gaz_views.specs.View.{View};
 

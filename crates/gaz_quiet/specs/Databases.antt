@@ -3,9 +3,7 @@ use Rattle.std.specs.Prelude.{◌≡◌, [], true, false}
 use Rattle.sqlite_disk.specs.declared.Disk.{Ghosts}
 use Rattle.sqlite_schema.specs.declared.schema.Schema.{Schema}
 use Rattle.sqlite_store.specs.declared.store.FileStore.{FileStore}
-use Rattle.sqlite.specs.Files.{file_state}
 use Rattle.sqlite.specs.Held.{Held}
-use Rattle.sqlite.specs.State.{State}
 use Rattle.gaz_quiet.specs.declared.quiet.QuietDisk.{QuietDisk}
 
 -- what is seen of a file in memory
@@ -27,9 +25,6 @@ quiet = record {
 -- a connection to a database in such files
 abbrev pub Quiet : Type 0
 Quiet = Held (FileStore QuietDisk quiet)
-
-abbrev pub quiet_state : Quiet → State
-quiet_state conn = file_state conn
 
 abbrev pub no_tables : Schema
 no_tables = record { tables = []; indexes = []; views = [] }

@@ -1,21 +1,9 @@
-//! Reads of a file's bytes, writes and changes of their length.
-ghost use Rattle.std.specs.Prelude.{◌+◌, ◌≤◌, ◌↔◌, IsTrue, length, OnOk};
-ghost use Rattle.sqlite_disk.specs.Disk.{Cut, Holds, Torn};
+//! Writes to a file's bytes, and changes of their length.
+ghost use Rattle.std.specs.Prelude.{length, OnOk};
+ghost use Rattle.sqlite_disk.specs.Disk.{Cut, Torn};
 ghost use Rattle.gaz_quiet.specs.Written.{IsResized, IsWritten};
 
 use std::alloc::AllocError;
-
-/// Copies the bytes that stand at the offset, where there are so many.
-pub fn copy_out(file: &[u8], at: usize, buf: &mut [u8]) -> bool
-    ensures within { IsTrue result ↔ (at + length buf.old ≤ length file.now) }
-    ensures read { IsTrue result → Holds file.now at buf.new }
-{
-    if at > file.len() || buf.len() > file.len() - at {
-        return false;
-    }
-    buf.copy_from_slice(&file[at..at + buf.len()]);
-    true
-}
 
 /// Gives the file this length; what is new is zeros.
 pub fn resize(file: &mut Vec<u8>, size: usize) -> Result<(), AllocError>

@@ -1,5 +1,7 @@
+//! A new database in memory.
 ghost use Rattle.std.specs.Prelude.{◌≡◌, false, IfSome, IsTrue};
-ghost use Rattle.gaz_quiet.specs.Databases.{no_tables, quiet_state};
+ghost use Rattle.sqlite.specs.Files.{file_state};
+ghost use Rattle.gaz_quiet.specs.Databases.{no_tables};
 
 use crate::quiet::QuietDisk;
 use sqlite::{Connection, FileStore, Files, Options};
@@ -17,7 +19,7 @@ fn is_empty(schema: &Schema) -> bool
 /// memory doesn't suffice. It goes with the connection.
 pub fn new_database(alloc: Global) -> Option<Connection<FileStore<QuietDisk>>>
     ensures outside { IfSome result (λ conn. conn.in_transaction ≡ false) }
-    ensures empty { IfSome result (λ conn. (quiet_state conn).now.schema ≡ no_tables) }
+    ensures empty { IfSome result (λ conn. (file_state conn).now.schema ≡ no_tables) }
 {
     let files = Files {
         log: QuietDisk::new(alloc),

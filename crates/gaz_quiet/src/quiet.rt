@@ -1,8 +1,9 @@
-ghost use Rattle.std.specs.Prelude.{◌≡◌, [], false, is_ok};
+//! A disk in memory.
+ghost use Rattle.std.specs.Prelude.{◌≡◌, [], false, is_ok, refl, true};
 ghost use Rattle.sqlite_disk.specs.Disk.{CountsFault};
 ghost use Rattle.sqlite_disk.specs.Refusal.{finds_no_room};
 
-use crate::changes::{copy_out, overwrite, resize};
+use crate::changes::{overwrite, resize};
 use sqlite_disk::{Disk, Tally, digest_of};
 use std::alloc::{AllocError, Global};
 use std::io;
@@ -35,8 +36,6 @@ impl QuietDisk {
 }
 
 impl Disk for QuietDisk {
-    ghost use Rattle.std.specs.Prelude.{◌≡◌, refl, true, false};
-
     ghost seen = { λ d. d.bytes.items };
 
     ghost may_leave = { λ d left. left ≡ d.bytes.items };
@@ -82,11 +81,11 @@ impl Disk for QuietDisk {
     }
 
     fn read_at(&mut self, at: usize, buf: &mut [u8]) -> io::Result<()> {
-        if copy_out(&self.bytes, at, buf) {
-            Ok(())
-        } else {
-            Err(io::ErrorKind::UnexpectedEof.into())
+        if at > self.bytes.len() || buf.len() > self.bytes.len() - at {
+            return Err(io::ErrorKind::UnexpectedEof.into());
         }
+        buf.copy_from_slice(&self.bytes[at..at + buf.len()]);
+        Ok(())
     }
 
     fn read_checked(&mut self, key: u64, want: u64, at: usize, buf: &mut [u8]) -> io::Result<()> {

@@ -3,7 +3,7 @@ use Rattle.std.specs.Prelude.{◌≡◌, ◌≢◌, ◌↔◌, ◌⊎◌, ⊤, �
 use Rattle.std.specs.Prelude.{OnOk, IsTrue}
 use Rattle.sqlite.specs.Effect.{Database}
 use Rattle.sqlite.specs.Held.{Held, state}
-use Rattle.sqlite.specs.State.{HasCleanDisk, State}
+use Rattle.sqlite.specs.State.{HasCleanDisk, State, Survives}
 use Rattle.sqlite_trees.specs.Tree.{Trees}
 use Rattle.sqlite_trees.specs.declared.store.Store.{Ghosts}
 use Rattle.gaz_register.specs.Growing.{Extends, growth_of}
@@ -22,6 +22,7 @@ use Rattle.gaz_kept.specs.Kept.{IsKept}
 use Rattle.gaz_kept.specs.Opening.{IsOf}
 use Rattle.gaz_kept.specs.Rewriting.{Registers}
 use Rattle.gaz_store.specs.Altering.{Alters}
+use Rattle.gaz_store.specs.Seen.{IsUnharmed}
 use Rattle.gaz_store.specs.declared.growing.ExtendFault.{ExtendFault}
 use Rattle.gaz_store.specs.declared.growing.ExtendFault.TheVariants.{OtherRegister}
 use Rattle.gaz_store.specs.declared.growing.ExtendFault.TheVariants.{RemovedCustodian}
@@ -98,6 +99,12 @@ TellsGrowth old grown (Err Fault) = ⊤
 TellsGrowth old grown (Err Memory) = ⊤
 
 module _ {S : Type 0} (g : Ghosts S) (before after : Held S) where
+  -- where the one register is no growth of the other, nothing is written
+  abbrev pub SparesUngrown : RegisterValue → RegisterValue → Type 0
+  SparesUngrown old grown = (growth_of old grown ≢ Ok tt)
+      → (IsUnharmed (state g before) → HasTables (state g before).now)
+      → Survives (state g before) (state g after) (λ _. ⊥)
+
   -- the only row of `meta` was of this register, and is of that one
   abbrev pub WasOf : RegisterValue → Type 0
   WasOf register = IsOf (register_text register) (rows_of (state g before).now meta)

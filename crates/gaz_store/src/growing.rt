@@ -7,9 +7,9 @@ ghost use Rattle.gaz_kept.specs.Opening.{has_all};
 ghost use Rattle.gaz_kept.specs.Rewriting.{Registers};
 ghost use Rattle.gaz_store.specs.Altering.{AltersTables};
 ghost use Rattle.gaz_store.specs.Asking.{AsksTables, IsAnyway};
-ghost use Rattle.gaz_store.specs.Growing.{KeepsContent, LeavesEither, TellsGrowth, TellsRegisters};
-ghost use Rattle.gaz_store.specs.Growing.{TellsWhose, WritesRegister, as_kept, of_growth};
-ghost use Rattle.gaz_store.specs.Growing.{of_keeper, register_then};
+ghost use Rattle.gaz_store.specs.Growing.{KeepsContent, LeavesEither, SparesUngrown, TellsGrowth};
+ghost use Rattle.gaz_store.specs.Growing.{TellsRegisters, TellsWhose, WritesRegister, as_kept};
+ghost use Rattle.gaz_store.specs.Growing.{of_growth, of_keeper, register_then};
 ghost use Rattle.gaz_store.specs.Store.{progress_of, seen_in};
 
 use crate::naming::OfRegister;
@@ -103,6 +103,8 @@ impl<S: Alter> Tables<S> {
         ensures growth { TellsGrowth register.now grown.now result }
         ensures told { TellsRegisters S.Store self.old.conn self.new.conn
             register.now grown.now result }
+        ensures spares { SparesUngrown S.Store self.old.conn self.new.conn
+            register.now grown.now }
         ensures lacking { has_all (state S.Store self.old.conn).now.schema ≡ false
             → result ≡ Err ExtendFault.OtherRegister }
     {
@@ -132,7 +134,7 @@ impl<S: Alter, R: OfRegister> Store<S, R> {
     /// blocks there, `Fault` where the database failed; `Memory` may come in place of any. After
     /// each of them tables and register are as before. What is received and judged stays, whatever
     /// the answer. A stop within the call leaves what it could before, or the same under the grown
-    /// register.
+    /// register; that only where it is a growth.
     pub fn extend(&mut self, register: &mut Register, grown: Register) -> Result<(), ExtendFault>
         requires { IsNotOpen (progress_of self.old.judging) }
         ensures keeps { KeepsContent (seen_in (register_text register.old) self.old)
@@ -145,6 +147,8 @@ impl<S: Alter, R: OfRegister> Store<S, R> {
         ensures growth { TellsGrowth register.old grown result }
         ensures told { TellsRegisters S.Store self.old.tables.conn self.new.tables.conn
             register.old grown result }
+        ensures spares { SparesUngrown S.Store self.old.tables.conn self.new.tables.conn
+            register.old grown }
         ensures lacking { has_all (state S.Store self.old.tables.conn).now.schema ≡ false
             → result ≡ Err ExtendFault.OtherRegister }
         ensures grown { OnOk result (register.new ≡ grown) }

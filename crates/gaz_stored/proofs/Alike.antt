@@ -1,7 +1,6 @@
 -- Of whom files were received and judged, on a partial board.
-use Rattle.std.proofs.Common.{◌≡◌, ◌∙◌, ◌≤◌, ◌<◌, ◌+◌, ◌-◌, inl, inr, ℕ, zero, suc, Bool, true, false, true≢false, cond, eqb, [], ◌∷◌, refl, sym, ap, arith, is_some, eqb-true}
+use Rattle.std.proofs.Common.{◌≡◌, ◌∙◌, ◌≤◌, ◌<◌, ◌+◌, ◌-◌, inl, inr, ℕ, zero, suc, Bool, true, false, true≢false, cond, eqb, [], ◌∷◌, refl, sym, ap, arith, is_some, eqb-true, Some}
 use Rattle.std.specs.List.{find}
-use Rattle.std.specs.Prelude.{Some}
 use Rattle.std.specs.FinMap as finite
 use Rattle.sqlite_rules.specs.Lists.{Has}
 use Rattle.gaz_register.specs.Registers.{CustodianValue, RegisterValue, knows}

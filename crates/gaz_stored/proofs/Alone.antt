@@ -1,6 +1,5 @@
 -- What is told of a hub that remembered nothing at first is told of its keeper.
-use Rattle.std.proofs.Common.{◌≡◌, ◌∙◌, List, [], ◌∷◌, ap, refl, subst, sym}
-use Rattle.std.specs.Prelude.{Option, None, Result, Ok, Err}
+use Rattle.std.proofs.Common.{◌≡◌, ◌∙◌, List, [], ◌∷◌, ap, refl, subst, sym, Option, None, Result, Ok, Err}
 use Rattle.gaz_hub.specs.Hubs.{MeetsDoor, Runs, Steps, door_of}
 use Rattle.gaz_hub.specs.Seen.{hub_seen}
 use Rattle.gaz_hub.specs.Step.{Command, Door, Response}
@@ -8,7 +7,7 @@ use Rattle.gaz_hub.specs.declared.hub.Hub.{Hub}
 use Rattle.gaz_hub.proofs.HubRuns.{runs_none, runs_one}
 use Rattle.gaz_commands.specs.Obeying.{Obeys}
 use Rattle.gaz_commands.specs.declared.said.Said.{Said}
-use Rattle.gaz_stored.specs.Ways.{Asks, Goes}
+use Rattle.gaz_stored.specs.Ways.{Asks, GoesBy}
 use Rattle.gaz_stored.proofs.Filled.{over_parts}
 use Rattle.gaz_hub.specs.Waiting.{Remembered, remembering}
 use Rattle.gaz_register.specs.Registers.{RegisterValue}
@@ -44,7 +43,7 @@ steps_alone seen register hub new first last command response e f fresh back ste
 
 -- what a call did to a hub that remembered nothing, it did over its keeper
 pub asks_with : {K : Type 0} (seen : K → Seen) (register : RegisterValue) (asks : Result Command Said) (hub new : Hub K) (first last : K) (said : Said) → hub.register ≡ register → hub.keeper ≡ first → hub.waiters ≡ None
-    → new.keeper ≡ last → Obeys seen asks hub new said → Goes seen register (Asks register asks said) first last
+    → new.keeper ≡ last → Obeys seen asks hub new said → GoesBy seen register (Asks register asks said) first last
 asks_with {K} seen register (Ok command) hub new first last said e f fresh back told = record {
   commands = command ∷ [];
   responses = told.response ∷ [];
@@ -56,6 +55,7 @@ asks_with {K} seen register (Ok command) hub new first last said e f fresh back 
     door = subst (λ (t : RegisterValue × K × K). MeetsDoor (door_of t.0) t.1 t.2 command told.response) (λ i. (e i, f i, back i)) told.door;
   };
   harm = λ fine. subst (λ k. (seen k).unharmed) f (told.steps.harm (subst (λ k. (seen k).unharmed) (sym back) fine));
+  trust = λ t. subst (λ k. (seen k).trusted) f (told.steps.trust (subst (λ k. (seen k).trusted) (sym back) t));
   runs = λ bare can. steps_alone seen register hub new first last command told.response e f fresh back told.steps;
 }
 asks_with {K} seen register (Err at_once) hub new first last said e f fresh back told =
@@ -65,5 +65,6 @@ asks_with {K} seen register (Err at_once) hub new first last said e f fresh back
       responses = [];
       went = (told.0, record { still = same; unasked = refl; untold = refl });
       harm = subst (λ (k : K). (seen k).unharmed) same;
+      trust = subst (λ (k : K). (seen k).trusted) same;
       runs = λ bare can. subst (λ (t : K). Runs (door_of register) (seen first) (seen t) [] []) (sym same) (runs_none (door_of register) (seen first));
     }

@@ -1,12 +1,11 @@
 -- What a hub does over a mirror of a keeper it does over the keeper.
-use Rattle.std.proofs.Common.{◌≡◌, ◌∙◌, ◌≤◌, ℕ, inl, List, [], refl, ap, subst, sym, arith, true≢false}
-use Rattle.std.specs.Prelude.{None, Option, Some}
+use Rattle.std.proofs.Common.{◌≡◌, ◌∙◌, ◌≤◌, ℕ, inl, List, [], refl, ap, subst, sym, arith, true≢false, None, Option, Some}
 use Rattle.sqlite.specs.Effect.{Database}
 use Rattle.sqlite.specs.Held.{state}
 use Rattle.sqlite_trees.specs.declared.store.Store.{Ghosts}
 use Rattle.gaz_views.specs.View.{View, empty_view}
 use Rattle.gaz_keeper.specs.Keeper as keeper
-use Rattle.gaz_keeper.specs.Keeper.{IsLeft, IsNotOpen, Progress, Seen}
+use Rattle.gaz_keeper.specs.Keeper.{IsNotOpen, Seen}
 use Rattle.gaz_tables.specs.Schema.{received}
 use Rattle.gaz_tables.specs.Tables.{rows_of}
 use Rattle.gaz_kept.specs.Contents.{content_in}
@@ -24,6 +23,7 @@ use Rattle.gaz_hub.specs.Step.{Command, Door, HubState, Response}
 use Rattle.gaz_hub.specs.declared.hub.Hub.{Hub}
 use Rattle.gaz_hub.proofs.Advancing.{may_keep}
 use Rattle.gaz_hub.proofs.HubRuns.{runs_still, runs_then}
+use Rattle.gaz_hub.proofs.Looks.{left_not_open}
 use Rattle.gaz_mirror.specs.Mirrored.{seen_mirrored}
 use Rattle.gaz_mirror.specs.Mirroring.{content_of, mirrored, progress_with, stands_below}
 use Rattle.gaz_mirror.specs.declared.gathered.Gathered.{Gathered}
@@ -32,7 +32,7 @@ use Rattle.gaz_register.specs.Registers.{RegisterValue}
 use Rattle.gaz_keeper.specs.declared.shelf.Shelf as shelf
 use Rattle.gaz_shelf.specs.Mem.{seen_in as memory}
 use Rattle.gaz_stored.specs.Filling.{AreVolumes, CanBeMirrored, RestsBare}
-use Rattle.gaz_stored.specs.Ways.{MirrorOf}
+use Rattle.gaz_stored.specs.Ways.{BeginsOver, MirrorOf}
 use Rattle.gaz_stored.proofs.Alone.{runs_alone}
 use Rattle.gaz_stored.proofs.Filled.{over_parts}
 
@@ -61,11 +61,6 @@ can_mirror {S} {N} {g} text d t run =
 
 -- ---- runs
 
-not_open : (old new : Progress) → IsLeft old new → IsNotOpen old → IsNotOpen new
-not_open keeper.Idle new left idle = λ c is. let clash = sym left ∙ is in cc
-not_open (keeper.Open c) new left idle = absurd (idle c refl)
-not_open keeper.Broken new left idle = left
-
 module _ {U : Type 0} (seen : U → Seen) (d : Door) (a lower last : Seen) (upper kept : Option U) where
   -- nothing was asked while all was put at hand
   begins : OnlyReads a lower → (a.unharmed → CanBeMirrored d a) → (CanBeMirrored d a → lower.unharmed → StandsForRun d (mirrored seen lower upper None)) → Runs d a (mirrored seen lower upper None) [] []
@@ -75,7 +70,7 @@ module _ {U : Type 0} (seen : U → Seen) (d : Door) (a lower last : Seen) (uppe
         harm = keeps.harm;
         stands = λ _ fine. (mirrors (was (keeps.harm fine)) fine).stands;
         run = λ stood fine. ap state_of (keeps.content stood.0 fine);
-        idle = not_open a.progress lower.progress keeps.progress;
+        idle = left_not_open a.progress lower.progress keeps.progress;
         failures = reads.failures;
         trust = reads.trust;
         stays = λ all hub. refl;
@@ -125,18 +120,18 @@ module _ {U : Type 0} (seen : U → Seen) (d : Door) (a lower last : Seen) (uppe
   runs_below (Some g) gathered commands responses reads was idle mirrors runs = absurd (idle g.code refl)
 
 -- what a hub over a mirror that remembered nothing made a run of is a run of one over the keeper
-pub over_keeper : {K : Type 0} (kind : shelf.Ghosts K) (register : RegisterValue) (first last : K) (begun left : Hub (MirrorOf kind)) (commands : List Command) (responses : List Response) → begun.register ≡ register
-    → begun.waiters ≡ None → OnlyReads (kind.seen first) (kind.seen begun.keeper.lower) → IsNotOpen (seen_mirrored begun.keeper).progress
+pub over_keeper : {K : Type 0} (kind : shelf.Ghosts K) (register : RegisterValue) (first last : K) (begun left : Hub (MirrorOf kind)) (commands : List Command) (responses : List Response) → BeginsOver kind register first begun
+    → IsNotOpen (seen_mirrored begun.keeper).progress
     → (RestsBare kind.seen → CanBeMirrored (door_of register) (kind.seen first) → (seen_mirrored begun.keeper).unharmed → StandsForRun (door_of register) (seen_mirrored begun.keeper))
     → left.keeper.lower ≡ last → Runs (door_of begun.register) (hub_seen seen_mirrored begun) (hub_seen seen_mirrored left) commands responses
     → RestsBare kind.seen → ((kind.seen first).unharmed → CanBeMirrored (door_of register) (kind.seen first)) → Runs (door_of register) (kind.seen first) (kind.seen last) commands responses
-over_keeper kind register first last begun left commands responses mine fresh reads idle stands back runs bare can =
+over_keeper kind register first last begun left commands responses begins idle stands back runs bare can =
     let d = door_of register in
     let m = begun.keeper in
     let n = left.keeper in
-    let over = over_parts seen_mirrored (λ r s. Runs (door_of r) s (hub_seen seen_mirrored left) commands responses) begun register m mine refl fresh runs in
+    let over = over_parts seen_mirrored (λ r s. Runs (door_of r) s (hub_seen seen_mirrored left) commands responses) begun register m begins.of_register refl begins.remembers runs in
     subst (λ t. Runs d (kind.seen first) (kind.seen t) commands responses) back
-    (runs_below memory d (kind.seen first) (kind.seen m.lower) (kind.seen n.lower) m.upper n.upper m.gathered n.gathered commands responses reads can idle (stands bare)
+    (runs_below memory d (kind.seen first) (kind.seen m.lower) (kind.seen n.lower) m.upper n.upper m.gathered n.gathered commands responses begins.reads can idle (stands bare)
     (runs_alone d register left.register left.waiters (seen_mirrored m) (seen_mirrored n) commands responses over))
 
 -- the keeper that is left is that of the hub that is taken apart

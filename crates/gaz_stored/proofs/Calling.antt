@@ -1,8 +1,9 @@
--- Calls one after another are one run of one hub.
-use Rattle.std.proofs.Common.{◌≡◌, ◌∙◌, ℕ, Bool, List, [], ◌∷◌, ◌++◌, Ok, Err, false, true, refl, ap, subst, sym}
+-- Calls one after another, whole or cut off, are one run of one hub.
+use Rattle.std.proofs.Common.{◌≡◌, ◌∙◌, inl, inr, List, [], ◌∷◌, ◌++◌, Ok, Err, false, refl, ap, subst, sym}
 use Rattle.sqlite.specs.Effect.{Database}
 use Rattle.sqlite.specs.Held.{Held, state}
 use Rattle.sqlite.specs.Order.{Row}
+use Rattle.sqlite.specs.State.{HasCleanDisk}
 use Rattle.sqlite.specs.declared.types.Value.TheVariants.{Text}
 use Rattle.sqlite_trees.specs.declared.store.Store.{Ghosts}
 use Rattle.gaz_register.specs.Growing.{Extends}
@@ -10,26 +11,32 @@ use Rattle.gaz_register.specs.Registers.{IsRegister, RegisterValue}
 use Rattle.gaz_register.specs.Texts.{register_text}
 use Rattle.gaz_register.proofs.Grown.{extends-composes}
 use Rattle.gaz_register.proofs.Telling.{texts-tell}
+use Rattle.gaz_keeper.specs.Received.{Received}
 use Rattle.gaz_tables.specs.Metas.{register_of}
 use Rattle.gaz_tables.specs.Schema.{meta}
 use Rattle.gaz_tables.specs.Tables.{rows_of}
 use Rattle.gaz_kept.specs.Opening.{IsOf}
-use Rattle.gaz_kept.specs.OpeningFirst.{has_first}
-use Rattle.gaz_kept.proofs.MetaRows.{not_store}
-use Rattle.gaz_store.specs.Seen.{IsUnharmed}
+use Rattle.gaz_kept.specs.OpeningFirst.{Untouched}
+use Rattle.gaz_kept.proofs.SameTrees.{same_rows}
+use Rattle.gaz_store.specs.declared.store.Store.{Store}
 use Rattle.gaz_hub.specs.Growth.{GrownRun, Period, last_register}
+use Rattle.gaz_hub.specs.Hubs.{door_of}
+use Rattle.gaz_hub.specs.Standing.{HasAllOf}
 use Rattle.gaz_hub.specs.Step.{HubState}
 use Rattle.gaz_hub.proofs.Growing.{every_grown_run_holds, growth_keeps_holds}
-use Rattle.gaz_stored.specs.Calls.{AreInTurn, Call, CallsAreOne, Came, GoesOnGrown, Grew, Moved, Refused, Used, all_periods, left_by, periods_in}
+use Rattle.gaz_hub.proofs.Receiving.{received_more, run_has_all, run_received}
+use Rattle.gaz_stored.specs.Calls.{AllStayIn, AreAllPeriods, ArePeriodsOf, Call, CallsAreOne, CameTo, CutOff, FollowOn, Grew, IsFoundAfter, Moved, Refused, StaysIn, Used, Whole, found_last, period}
+use Rattle.gaz_stored.specs.Extending.{StandsStill}
 use Rattle.gaz_stored.specs.Migrating.{MigratesOpened, told_of}
-use Rattle.gaz_stored.specs.Runs.{IsStoreOf, StandForRun, hub_in}
+use Rattle.gaz_stored.specs.Runs.{GoesOn, IsStoreOf, StandForRun, hub_in}
+use Rattle.gaz_stored.specs.Using.{IsOpenedFrom}
 use Rattle.gaz_stored.specs.declared.migrating.Migration.{Migration}
 use Rattle.gaz_stored.specs.declared.migrating.Migration.TheVariants.{Done, Current}
+use Rattle.gaz_stored.proofs.Beginning.{clean_before}
+use Rattle.gaz_stored.proofs.ExtendsOpened.{same_trees}
+use Rattle.gaz_stored.proofs.Moving.{none_first}
 
 -- ---- of which register the rows of `meta` are
-
-one_text : (a b : List ℕ) → Text a ≡ Text b → a ≡ b
-one_text a b e = cc
 
 pub same_row : (r s : Row) (rows : List Row) → rows ≡ r ∷ [] → rows ≡ s ∷ [] → r ≡ s
 same_row r s rows e f = let both : r ∷ [] ≡ s ∷ [] = sym e ∙ f in cc
@@ -37,7 +44,7 @@ same_row r s rows e f = let both : r ∷ [] ≡ s ∷ [] = sym e ∙ f in cc
 same_register : (one other : RegisterValue) (rows : List Row) → IsRegister one → IsRegister other → IsOf (register_text one) rows → IsOf (register_text other) rows → one ≡ other
 same_register one other rows is are mine theirs =
     let row = same_row mine.0 theirs.0 rows mine.1.only theirs.1.only in
-    texts-tell one other is are (one_text _ _ (sym mine.2 ∙ ap register_of row ∙ theirs.2))
+    texts-tell one other is are (let texts : Text (register_text one) ≡ Text (register_text other) = sym mine.2 ∙ ap register_of row ∙ theirs.2 in cc)
 
 -- ---- one after another
 
@@ -51,12 +58,6 @@ grown_stands register grown db more stood =
       partial = growth_keeps_holds.partial register grown h.received h.board more stood.known stood.partial;
     }
 
--- what a call leads to
-record Leads (register : RegisterValue) (before : HubState) (periods : List Period) (after : Database) : Type 0 where
-  run : GrownRun register before periods (hub_in after)
-  last : IsRegister (last_register register periods)
-  store : IsStoreOf (last_register register periods) after
-
 runs_then : (register : RegisterValue) (old mid new : HubState) (some more : List Period) → GrownRun register old some mid → GrownRun (last_register register some) mid more new → GrownRun register old (some ++ more) new
 runs_then register old mid new [] more still then = subst (λ h. GrownRun register h more new) still then
 runs_then register old mid new (period ∷ some) more run then = (run.0, run.1, run.2, runs_then period.register run.0 mid new some more run.3 then)
@@ -65,63 +66,174 @@ last_then : (register : RegisterValue) (some more : List Period) → last_regist
 last_then register [] more = refl
 last_then register (period ∷ some) more = last_then period.register some more
 
+-- no file is lost
+all_then : (register : RegisterValue) (old new : HubState) (periods : List Period) → GrownRun register old periods new → HasAllOf new.received old.received
+all_then register old new [] still = subst (λ (h : HubState). HasAllOf h.received old.received) (sym still) (λ p bytes at. at)
+all_then register old new (next ∷ later) run = λ p bytes at.
+    all_then next.register run.0 new later run.3 p bytes (run_has_all (door_of next.register) old run.0 next.commands next.responses run.2 p bytes at)
+
 module _ {S : Type 0} (g : Ghosts S) where
-  stays : (register : RegisterValue) (before after : Held S) → IsRegister register → IsStoreOf register (state g before).now → (state g after).now ≡ (state g before).now → Leads register (hub_in (state g before).now) [] (state g after).now
-  stays register before after is store same = record { run = ap hub_in same; last = is; store = subst (IsStoreOf register) (sym same) store }
+  -- what a call leads to
+  record Leads (register : RegisterValue) (before after : Held S) (found : Database) (came : CameTo g before after) (is_found : IsFoundAfter g before after found) : Type 0 where
+    periods : List Period
+    periods_are : ArePeriodsOf g came is_found periods
+    run : GrownRun register (hub_in (state g before).now) periods (hub_in found)
+    last : IsRegister (last_register register periods)
+    store : IsStoreOf (last_register register periods) found
+    stays : StaysIn g came (hub_in found).received
 
-  leads : (register : RegisterValue) (before after : Held S) (came : Came g before after) → IsRegister register → IsStoreOf register (state g before).now → IsUnharmed (state g after)
-      → Leads register (hub_in (state g before).now) (periods_in g came) (state g after).now
-  leads register before after (Used other first commands responses are uses) is store fine =
-      let theirs = uses.opened.of_register (uses.leads.harm fine) store.stands.kept in
-      let same = same_register register other (rows_of (state g before).now meta) is are store.whose theirs in
-      let goes = uses.leads.goes_on fine (subst (λ r. StandForRun r (state g before).now) same store.stands) in
-      record {
-        run = (hub_in (state g after).now, subst (Extends register) same (extends-composes.itself register), goes.went.run, refl);
-        last = are;
-        store = goes.store;
-      }
-  leads register before after (Grew other grown (Ok done) are new extends) is store fine =
-      let told = extends.registers fine store.stands.kept.tables in
-      let same = same_register register other (rows_of (state g before).now meta) is are store.whose told.0 in
-      let stood = subst (λ r. StandForRun r (state g before).now) same store.stands in
-      let still = extends.stays fine stood in
-      let more = subst (λ r. Extends r grown) (sym same) extends.growth in
-      record {
-        run = (hub_in (state g after).now, more, still.hub, refl);
-        last = new;
-        store = record { stands = grown_stands other grown (state g after).now extends.growth still.stands; whose = extends.whose fine stood };
-      }
-  leads register before after (Grew other grown (Err why) are new extends) is store fine = stays register before after is store (extends.undone fine store.stands.kept.tables)
-  leads register before after (Moved other told migrates) is store fine = stays register before after is store (by_told told migrates)
-    where
-      was_first : (first : Bool) → Done ≡ told_of first → first ≡ true
-      was_first true e = refl
-      was_first false e = absurd (cc)
+  module _ (register : RegisterValue) (before after : Held S) (is : IsRegister register) (store : IsStoreOf register (state g before).now) where
+    abbrev old : Database
+    old = (state g before).now
 
-      by_told : (t : Migration) → MigratesOpened g other before after t → (state g after).now ≡ (state g before).now
-      by_told Done is = absurd (not_store (state g before).now.schema store.stands.kept.tables.there (was_first (has_first (state g before).now.schema) is.told_is))
-      by_told Current is = ((is.current refl).rests fine.clean).now fine.is_open
-  leads register before after (Refused refused) is store fine = stays register before after is store ((refused.rests fine.clean).now fine.is_open)
+    -- whoever opened it under a register is of this one
+    one_register : (other : RegisterValue) → IsRegister other → {R : Type 0} → (first : Store S R g) → IsOpenedFrom g other before first → HasCleanDisk (state g first.tables.conn) → register ≡ other
+    one_register other are first from clean = same_register register other (rows_of old meta) is are store.whose (from.judged clean store.stands.kept.tables)
 
-  joined : (register : RegisterValue) (db : Database) (calls : List (Call g)) → IsRegister register → IsStoreOf register db → AreInTurn g db calls → Leads register (hub_in db) (all_periods g calls) (left_by g db calls)
-  joined register db [] is store turn = record { run = refl; last = is; store = store }
-  joined register db (call ∷ later) is store turn =
-      let now = (state g call.after).now in
-      let one = leads register call.before call.after call.came is (subst (IsStoreOf register) (sym turn.0) store) turn.1 in
-      let rest = joined (last_register register (periods_in g call.came)) now later one.last one.store turn.2 in
-      let first = subst (λ (d : Database). GrownRun register (hub_in d) (periods_in g call.came) (hub_in now)) turn.0 one.run in
-      let last = last_then register (periods_in g call.came) (all_periods g later) in
+    stood_of : (other : RegisterValue) → register ≡ other → StandForRun other old
+    stood_of other same = subst (λ r. StandForRun r old) same store.stands
+
+    extends_of : (other : RegisterValue) → register ≡ other → Extends register other
+    extends_of other same = subst (Extends register) same (extends-composes.itself register)
+
+    -- the same is found, whether it ended whole or was cut off
+    same_found : (found : Database) → IsFoundAfter g before after found → Untouched g before after → (hub_in found ≡ hub_in old) × IsStoreOf register found
+    same_found found (Whole fine same) rests =
+        let is_old = sym same ∙ (rests.rests fine.clean).now fine.is_open in
+        (ap hub_in is_old, subst (IsStoreOf register) (sym is_old) store)
+    same_found found (CutOff itself may) rests = elim (rests.leaves.crash may.clean found.trees may.left) [
+      | inl was ↦
+          let trees = itself found.trees (clean_before g before after rests.leaves may.clean) was in
+          let still = same_trees register old found store.stands may.sound trees in
+          (still.hub, record { stands = still.stands; whose = subst (IsOf (register_text register)) (sym (same_rows old found store.stands.kept may.sound trees meta)) store.whose })
+      | inr never ↦ absurd never
+    ]
+
+    -- a store is not migrated
+    is_current : (other : RegisterValue) (told : Migration) → MigratesOpened g other before after told → Untouched g before after
+    is_current other Done it = let no : Done ≡ told_of false = it.told_is ∙ ap told_of (none_first g before store.stands.kept.tables) in absurd (cc)
+    is_current other Current it = it.current refl
+
+    module _ (found : Database) where
+      abbrev To : (came : CameTo g before after) → IsFoundAfter g before after found → Type 0
+      To = Leads register before after found
+
+      unmoved : (came : CameTo g before after) (is_found : IsFoundAfter g before after found) → ArePeriodsOf g came is_found [] → StaysIn g came (hub_in found).received → Untouched g before after → To came is_found
+      unmoved came is_found none stays rests =
+          let it = same_found found is_found rests in
+          record { periods = []; periods_are = none; run = it.0; last = is; store = it.1; stays = stays }
+
+      leads : (came : CameTo g before after) (is_found : IsFoundAfter g before after found) → To came is_found
+      leads (Used other first commands responses are uses) (Whole fine same) =
+          let one = one_register other are first uses.opened (uses.leads.trust fine.clean) in
+          let stood = stood_of other one in
+          let goes = subst (GoesOn other (hub_in old) commands responses) same (uses.leads.goes_on fine stood) in
+          record {
+            periods = period other commands responses ∷ [];
+            periods_are = refl;
+            run = (hub_in found, extends_of other one, goes.went.run, refl);
+            last = are;
+            store = goes.store;
+            stays = (uses.leads.went_on fine.clean stood, run_received (door_of other) (hub_in old) (hub_in found) commands responses goes.went.run);
+          }
+      leads (Used other first commands responses are uses) (CutOff itself may) =
+          let one = one_register other are first uses.opened (uses.leads.trust may.clean) in
+          let stood = stood_of other one in
+          let later = uses.leads.stops stood itself found may in
+          let far = later.run in
+          record {
+            periods = period other far.asked far.said ∷ [];
+            periods_are = (far.asked, far.said, far.cut, refl);
+            run = (hub_in found, extends_of other one, far.run, refl);
+            last = are;
+            store = later.store;
+            stays = (uses.leads.went_on may.clean stood, later.received);
+          }
+      leads (Grew other grown (Ok done) are new extends) (Whole fine same) =
+          let one = one_register other are extends.first extends.opened (extends.trust fine.clean) in
+          let stood = stood_of other one in
+          let still = subst (StandsStill other old) same (extends.stays fine stood) in
+          record {
+            periods = period grown [] [] ∷ [];
+            periods_are = refl;
+            run = (hub_in found, subst (λ r. Extends r grown) (sym one) extends.growth, still.hub, refl);
+            last = new;
+            store = record {
+              stands = grown_stands other grown found extends.growth still.stands;
+              whose = subst (λ (db : Database). IsOf (register_text grown) (rows_of db meta)) same (extends.whose fine stood);
+            };
+            stays = tt;
+          }
+      leads (Grew other grown (Err why) are new extends) (Whole fine same) =
+          let is_old = sym same ∙ extends.undone fine store.stands.kept.tables in
+          record { periods = []; periods_are = refl; run = ap hub_in is_old; last = is; store = subst (IsStoreOf register) (sym is_old) store; stays = tt }
+      leads (Grew other grown told are new extends) (CutOff itself may) =
+          let one = one_register other are extends.first extends.opened (extends.trust may.clean) in
+          let between = extends.stops (stood_of other one) itself found may in
+          let still = between.still in
+          elim between.whose [
+            | inl mine ↦ record {
+              periods = [];
+              periods_are = inl refl;
+              run = still.hub;
+              last = is;
+              store = record { stands = subst (λ r. StandForRun r found) (sym one) still.stands; whose = subst (λ r. IsOf (register_text r) (rows_of found meta)) (sym one) mine };
+              stays = tt;
+            }
+            | inr more ↦ record {
+              periods = period grown [] [] ∷ [];
+              periods_are = inr refl;
+              run = (hub_in found, subst (λ r. Extends r grown) (sym one) more.0, still.hub, refl);
+              last = new;
+              store = record { stands = grown_stands other grown found more.0 still.stands; whose = more.1 };
+              stays = tt;
+            }
+          ]
+      leads (Moved other told migrates) (Whole fine same) = unmoved (Moved other told migrates) (Whole fine same) refl tt (is_current other told migrates)
+      leads (Moved other told migrates) (CutOff itself may) = unmoved (Moved other told migrates) (CutOff itself may) refl tt (is_current other told migrates)
+      leads (Refused leaves) (Whole fine same) = unmoved (Refused leaves) (Whole fine same) refl tt (leaves store.stands.kept.tables)
+      leads (Refused leaves) (CutOff itself may) = unmoved (Refused leaves) (CutOff itself may) refl tt (leaves store.stands.kept.tables)
+
+  -- more files have what a call received too
+  stays_more : {before after : Held S} → (came : CameTo g before after) (files bigger : Received) → HasAllOf bigger files → StaysIn g came files → StaysIn g came bigger
+  stays_more (Used register first commands responses is uses) files bigger all stays = (stays.0, received_more commands responses files bigger all stays.1)
+  stays_more (Grew register grown told is are extends) files bigger all stays = tt
+  stays_more (Moved register told migrates) files bigger all stays = tt
+  stays_more (Refused leaves) files bigger all stays = tt
+
+  -- calls one after another lead to this
+  record Lead (register : RegisterValue) (db : Database) (calls : List (Call g)) : Type 0 where
+    periods : List Period
+    periods_are : AreAllPeriods g calls periods
+    run : GrownRun register (hub_in db) periods (hub_in (found_last g db calls))
+    store : IsStoreOf (last_register register periods) (found_last g db calls)
+    stay : AllStayIn g calls (hub_in (found_last g db calls)).received
+
+  lead : (register : RegisterValue) (db : Database) (calls : List (Call g)) → IsRegister register → IsStoreOf register db → FollowOn g db calls → Lead register db calls
+  lead register db [] is store follow = record { periods = []; periods_are = refl; run = refl; store = store; stay = tt }
+  lead register db (call ∷ later) is store follow =
+      let one = leads register call.before call.after is (subst (IsStoreOf register) (sym follow.0) store) call.found call.came call.is_found in
+      let rest = lead (last_register register one.periods) call.found later one.last one.store follow.1 in
+      let first = subst (λ (d : Database). GrownRun register (hub_in d) one.periods (hub_in call.found)) follow.0 one.run in
+      let last = found_last g call.found later in
       record {
-        run = runs_then register (hub_in db) (hub_in now) (hub_in (left_by g now later)) (periods_in g call.came) (all_periods g later) first rest.run;
-        last = subst IsRegister last rest.last;
-        store = subst (λ r. IsStoreOf r (left_by g now later)) last rest.store;
+        periods = one.periods ++ rest.periods;
+        periods_are = (one.periods, rest.periods, one.periods_are, rest.periods_are, refl);
+        run = runs_then register (hub_in db) (hub_in call.found) (hub_in last) one.periods rest.periods first rest.run;
+        store = subst (λ r. IsStoreOf r last) (last_then register one.periods rest.periods) rest.store;
+        stay = (stays_more call.came (hub_in call.found).received (hub_in last).received (all_then (last_register register one.periods) (hub_in call.found) (hub_in last) rest.periods rest.run) one.stays, rest.stay);
       }
 
   pub calls_are_one : CallsAreOne g
-  calls_are_one register db calls is store turn =
-      let it = joined register db calls is store turn in
+  calls_are_one register db calls is store follow =
+      let it = lead register db calls is store follow in
       record {
-        run = it.run;
-        abides = every_grown_run_holds register (hub_in db) (hub_in (left_by g db calls)) (all_periods g calls) store.stands.known store.stands.partial it.run;
-        store = it.store;
+        periods = it.periods;
+        periods_are = it.periods_are;
+        goes_on = record {
+          run = it.run;
+          abides = every_grown_run_holds register (hub_in db) (hub_in (found_last g db calls)) it.periods store.stands.known store.stands.partial it.run;
+          store = it.store;
+        };
+        stay = it.stay;
       }

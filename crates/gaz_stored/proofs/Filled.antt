@@ -1,6 +1,5 @@
 -- What a mirror over the filled keeper stands for.
-use Rattle.std.proofs.Common.{◌≡◌, ◌∙◌, refl, sym, ap, subst}
-use Rattle.std.specs.Prelude.{Option, Some, None}
+use Rattle.std.proofs.Common.{◌≡◌, ◌∙◌, refl, sym, ap, subst, Option, Some, None}
 use Rattle.std.specs.Option.{ForSome}
 use Rattle.gaz_register.specs.Registers.{RegisterValue}
 use Rattle.gaz_views.specs.View.{empty_view}

@@ -1,29 +1,31 @@
 -- What a hub did over a store, by a run of its keeper: what the tables stand for, and what a stop leaves.
-use Rattle.std.proofs.Common.{◌≡◌, ℕ, Bool, true, false, List, refl, subst}
+use Rattle.std.proofs.Common.{◌≡◌, ◌∙◌, inl, inr, ℕ, Bool, true, false, List, ap, refl, subst, sym}
 use Rattle.sqlite.specs.Held.{Held, state}
 use Rattle.sqlite.specs.State.{HasCleanDisk}
 use Rattle.sqlite_trees.specs.declared.store.Store.{Ghosts}
 use Rattle.gaz_register.specs.Registers.{RegisterValue, blocks_of}
 use Rattle.gaz_register.specs.Texts.{register_text}
 use Rattle.gaz_views.specs.View.{empty_view}
-use Rattle.gaz_keeper.specs.Keeper.{LeavesOnly, Seen}
+use Rattle.gaz_keeper.specs.Keeper.{Content, Seen, after_stop}
 use Rattle.gaz_kept.specs.Contents.{content_in}
 use Rattle.gaz_store.specs.Seen.{IsUnharmed, kept_by_trees}
 use Rattle.gaz_store.specs.Store.{seen_in}
 use Rattle.gaz_store.specs.declared.store.Store.{Store}
-use Rattle.gaz_hub.specs.Found.{HasFilesAfter, HasFilesOf}
-use Rattle.gaz_hub.specs.Hubs.{Runs, all_declined, door_of, state_of}
+use Rattle.gaz_hub.specs.Found.{HasFilesOf}
+use Rattle.gaz_hub.specs.Hubs.{AreKnown, Runs, all_declined, door_of, state_of}
 use Rattle.gaz_hub.specs.Laws.{StandsForRun}
 use Rattle.gaz_hub.specs.Runs.{Run}
 use Rattle.gaz_hub.specs.Standing.{IsPartial}
 use Rattle.gaz_hub.specs.Step.{Command, Door, HubState, Response}
-use Rattle.gaz_hub.specs.Stops.{HasAllTold}
+use Rattle.gaz_hub.specs.Stops.{IsLeftAfter, StopsRun}
 use Rattle.gaz_hub.proofs.Answers.{every_answer_holds}
-use Rattle.gaz_hub.proofs.Finding.{every_stop_over}
+use Rattle.gaz_hub.proofs.Finding.{every_stop_over, run_known}
+use Rattle.gaz_hub.proofs.Receiving.{all_told, run_has_all}
 use Rattle.gaz_hub.proofs.Runs.{every_run_from_holds}
 use Rattle.gaz_stored.specs.Runs.{GoesOn, Went, WentOn, hub_in}
-use Rattle.gaz_stored.specs.Stopping.{FindsLater}
+use Rattle.gaz_stored.specs.Stopping.{FindsLater, RunsCutOff}
 use Rattle.gaz_stored.specs.Using.{Leads}
+use Rattle.gaz_stored.proofs.Cutting.{cut_after, cut_at_once}
 
 -- from a partial board
 pub went_by : (register : RegisterValue) (before : HubState) (commands : List Command) (responses : List Response) (after : HubState) → IsPartial (blocks_of register) before.received before.board
@@ -42,9 +44,14 @@ module _ {S N : Type 0} {g : Ghosts S} (register : RegisterValue) (first : Store
   abbrev pub Begun : HubState → Type 0
   Begun hub = StandsForRun (door_of register) as_first × (state_of as_first.content ≡ hub)
 
-  -- a stop leaves just what it stands for
-  abbrev pub LeavesThat : Type 0
-  LeavesThat = LeavesOnly as_first.content as_first × as_first.whole
+  -- and a stop leaves just that, whatever a failure shut
+  pub record LeavesHub (hub : HubState) : Type 0 where
+    pub left : Content
+    pub is_hub : state_of left ≡ hub
+    pub only : (k : Content) → as_first.leaves k → k ≡ left
+    pub same : IsUnharmed (state g first.tables.conn) → after_stop as_first.content ≡ left
+    pub whole : HasCleanDisk (state g first.tables.conn) → as_first.whole
+    pub known : AreKnown (door_of register) hub.received
 
 module _ {S N : Type 0} {g : Ghosts S} (register : RegisterValue) (first last : Store S N g) (hub : HubState) (commands : List Command) (responses : List Response) where
   abbrev text : List ℕ
@@ -84,25 +91,55 @@ module _ {S N : Type 0} {g : Ghosts S} (register : RegisterValue) (first last : 
           let reached = runs.reaches began.0.stands clean in
           to reached.0 (subst (λ h. Run d h commands responses reached.0) began.1 reached.1)
 
-  finds : Begins → LeavesThat register first → MakesRun → FindsLater register hub commands responses (state g last.tables.conn)
-  finds begun leaves runs db left =
-      let k = content_in db empty_view in
-      let found = every_stop_over (seen_in text) d first last commands responses begun.0 leaves.0 runs k (record { clean = left.clean; db = db; sound = left.sound; left = left.left; content = refl }) in
-      let it = kept_by_trees text db left.sound ((runs.stops (λ _. begun.0.stands)).whole leaves.1 db.trees left.clean left.left) in
-      record {
-        store = record { stands = record { kept = it.kept; known = found.known; partial = found.partial }; whose = it.whose };
-        ever = subst (λ h. HasFilesAfter d h commands responses k.files) begun.1 found.ever;
-        received = found.received;
-        told = subst (λ h. HasAllTold d h commands responses k.files) begun.1 found.told;
-        now = λ fine. subst (λ h. HasFilesOf d h (state_of (seen_in text last).content) commands responses k.files) begun.1 (found.now fine);
-      }
+  -- what a stop leaves of it
+  module _ (partial : IsPartly) (begun : IsUnharmed (state g first.tables.conn) → Begins) (leaves : LeavesHub register first hub) (runs : MakesRun) where
+    stops : StopsRun d (seen_in text first) (seen_in text last) (state_of (seen_in text first).content) (state_of (seen_in text last).content) commands responses
+    stops = runs.stops (λ fine. (begun fine).0.stands)
 
-  pub leads : (Asked Itself : Type 0) → (IsUnharmed (state g last.tables.conn) → IsUnharmed (state g first.tables.conn)) → (Asked → IsPartly) → (Asked → IsUnharmed (state g first.tables.conn) → Begins) → (Asked → Itself → IsUnharmed (state g first.tables.conn) → LeavesThat register first) → (Asked → MakesRun)
-      → (after : Held S) → last.tables.conn ≡ after → Leads register Asked Itself hub (state g first.tables.conn) (state g after) commands responses
-  leads Asked Itself harm partial begun leaves runs after back =
+    cut : (k : Content) → (seen_in text last).leaves k → RunsCutOff d hub commands responses (state_of k)
+    cut k left = elim (stops.ever k left) [
+      | inl before ↦ cut_at_once d hub commands responses (state_of k) (ap state_of (leaves.only k before) ∙ leaves.is_hub)
+      | inr made ↦ cut_after d hub commands responses k (subst (λ h. IsLeftAfter d commands responses h k) (begun made.0).1 made.1)
+    ]
+
+    -- of all that are received, where the connection is open in the end
+    now : (k : Content) → (seen_in text last).leaves k → IsUnharmed (state g last.tables.conn) → HasFilesOf d hub (state_of (seen_in text last).content) commands responses k.files
+    now k left fine =
+        let early = runs.harm fine in
+        let began = begun early in
+        let found = every_stop_over (seen_in text) d first last commands responses began.0 (λ k before. leaves.only k before ∙ sym (leaves.same early)) runs k left in
+        subst (λ h. HasFilesOf d h (state_of (seen_in text last).content) commands responses k.files) began.1 (found.now fine)
+
+    finds : FindsLater register hub commands responses (state g last.tables.conn)
+    finds db may =
+        let k = content_in db empty_view in
+        let left : (seen_in text last).leaves k = record { clean = may.clean; db = db; sound = may.sound; left = may.left; content = refl } in
+        let it = kept_by_trees text db may.sound (stops.whole (leaves.whole (runs.trust may.clean)) db.trees may.clean may.left) in
+        let far = cut k left in
+        let received = stops.received k left in
+        record {
+          store = record {
+            stands = record {
+              kept = it.kept;
+              known = run_known d hub (state_of k) far.asked far.said far.run leaves.known;
+              partial = (every_run_from_holds d hub (state_of k) far.asked far.said partial far.run).partial;
+            };
+            whose = it.whose;
+          };
+          run = far;
+          received = received;
+          told = all_told d hub commands responses k.files (run_has_all d hub (state_of k) far.asked far.said far.run) received;
+          now = now k left;
+        }
+
+  pub leads : (Asked Itself : Type 0) → (Asked → IsPartly) → (Asked → IsUnharmed (state g first.tables.conn) → Begins) → (Asked → Itself → LeavesHub register first hub)
+      → (IsUnharmed (state g last.tables.conn) → IsUnharmed (state g first.tables.conn)) → (HasCleanDisk (state g last.tables.conn) → HasCleanDisk (state g first.tables.conn)) → (Asked → MakesRun) → (after : Held S) → last.tables.conn ≡ after
+      → Leads register Asked Itself hub (state g first.tables.conn) (state g after) commands responses
+  leads Asked Itself partial begun leaves harm trust runs after back =
       subst (λ h. Leads register Asked Itself hub (state g first.tables.conn) (state g h) commands responses) back (record {
         harm = harm;
+        trust = trust;
         went_on = λ clean b. went_on (partial b) (begun b) (runs b) clean;
         goes_on = λ fine b. goes_on (begun b ((runs b).harm fine)) (runs b) fine;
-        stops = λ early b itself. finds (begun b early) (leaves b itself early) (runs b);
+        stops = λ b itself. finds (partial b) (begun b) (leaves b itself) (runs b);
       })

@@ -1,12 +1,10 @@
 mod Alone
 mod Below
+mod Cutting
 pub mod Going
 mod Beginning
 pub mod Using
-mod Stops
 pub mod Calling
-mod CallExamples
-mod Examples
 pub mod Meetings
 mod Serving
 pub mod ExtendsOpened
@@ -14,6 +12,3 @@ pub mod Moving
 pub mod Reopening
 mod Alike
 pub mod Filled
-mod Volumes
-mod FillingExamples
-mod MeetingExamples

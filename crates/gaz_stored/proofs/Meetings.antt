@@ -1,7 +1,5 @@
 -- Peers that come one after another.
-use Rattle.std.proofs.Common.{◌≡◌, ◌++◌, ℕ, Bool, List, [], ◌∷◌, refl, subst, sym}
-use Rattle.std.specs.Prelude.{Option}
-use Rattle.gaz_exchange.specs.Failing.{NeverFails}
+use Rattle.std.proofs.Common.{◌++◌, List, [], ◌∷◌, refl, subst}
 use Rattle.gaz_stored.specs.Meetings.{AreMet, AreWhole, Came, Left, Meeting, Missed, WithPeers}
 
 whole_then : (met more : List Meeting) → AreWhole met → AreWhole more → AreWhole (met ++ more)

@@ -1,5 +1,5 @@
 -- What the next opening of a store's tables answers.
-use Rattle.std.proofs.Common.{◌≡◌, ◌∙◌, inl, inr, ℕ, List, [], ◌∷◌, Result, Ok, Err, refl, sym, subst}
+use Rattle.std.proofs.Common.{◌≡◌, inl, inr, ℕ, List, Result, Ok, Err, refl, subst}
 use Rattle.sqlite.specs.Held.{Held, state}
 use Rattle.sqlite.specs.Order.{Row}
 use Rattle.sqlite.specs.declared.types.Value.TheVariants.{Text}
@@ -12,8 +12,7 @@ use Rattle.gaz_tables.specs.Tables.{rows_of}
 use Rattle.gaz_kept.specs.Opening.{IsJudged, IsOf}
 use Rattle.gaz_kept.specs.declared.refusal.StoreRefusal.{StoreRefusal}
 use Rattle.gaz_kept.specs.declared.refusal.StoreRefusal.TheVariants.{BadSchema, Fault, OtherRegister}
-use Rattle.gaz_stored.specs.Reopening.{OpensAgain, OpensOrFails, OpensThen}
-use Rattle.gaz_stored.specs.Runs.{IsStoreOf}
+use Rattle.gaz_stored.specs.Reopening.{HasStoreOf, OpensAgain, OpensOrFails, OpensThen}
 use Rattle.gaz_stored.proofs.Calling.{same_row}
 
 -- rows of this register are told of so
@@ -25,8 +24,13 @@ judged text rows whose (Err OtherRegister) is =
 judged text rows whose (Err Fault) is = inr refl
 
 module _ {S : Type 0} (g : Ghosts S) where
-  pub opens : (register : RegisterValue) (conn next : Held S) → IsStoreOf register (state g conn).now → OpensThen g register conn next
-  opens register conn next store answer clean judges = judged (register_text register) (rows_of (state g conn).now meta) store.whose answer (judges clean store.stands.kept.tables)
+  pub opens : (register : RegisterValue) (conn next : Held S) → HasStoreOf register (state g conn).now → OpensThen g register conn next
+  opens register conn next store answer clean judges = judged (register_text register) (rows_of (state g conn).now meta) store.whose answer (judges clean store.tables)
 
   pub opens_again : OpensAgain g
-  opens_again = record { store = opens; left = λ register before commands responses after conn next finds may. opens register conn next (finds (state g conn).now may).store }
+  opens_again = record {
+    store = opens;
+    left = λ register before commands responses after conn next finds may.
+        let store = (finds (state g conn).now may).store in
+        opens register conn next (record { tables = store.stands.kept.tables; whose = store.whose });
+  }

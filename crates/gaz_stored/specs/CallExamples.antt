@@ -1,38 +1,66 @@
 -- Worked examples on calls one after another.
-use Rattle.std.specs.Prelude.{◌≡◌, codes, [], ◌∷◌, Ok}
+use Rattle.std.specs.Prelude.{◌≡◌, List, [], ◌∷◌, Ok}
+use Rattle.std.proofs.Common.{refl}
+use Rattle.std.specs.declared.marker.Brand.{Brand}
 use Rattle.sqlite.specs.Held.{Held, state}
 use Rattle.sqlite_trees.specs.declared.store.Store.{Ghosts}
-use Rattle.gaz_register.specs.Registers.{CustodianValue, IsRegister, RegisterValue}
-use Rattle.gaz_store.specs.Opened.{IsRefused}
-use Rattle.gaz_hub.specs.Growth.{GrownRun}
-use Rattle.gaz_stored.specs.Calls.{AreInTurn, Call, Grew, Refused, all_periods, left_by, period}
-use Rattle.gaz_stored.specs.Calls.{periods_in}
-use Rattle.gaz_stored.specs.Examples.{bare_database, worked_database, worked_hub}
+use Rattle.gaz_register.specs.Registers.{IsRegister, RegisterValue}
+use Rattle.gaz_store.specs.Seen.{IsUnharmed}
+use Rattle.gaz_store.specs.WorkedGrowing.{county, town}
+use Rattle.gaz_store.specs.declared.store.Store.{Store}
+use Rattle.gaz_hub.specs.Growth.{GrownRun, Period}
+use Rattle.gaz_hub.specs.Step.{Command, Pose, Response}
+use Rattle.gaz_hub.specs.declared.question.Question.TheVariants.{Settle}
+use Rattle.gaz_stored.specs.Calls.{AreAllPeriods, Call, FollowOn, Grew, Refused, Used, Whole}
+use Rattle.gaz_stored.specs.Calls.{found_last, period, periods_in}
+use Rattle.gaz_stored.specs.Examples.{bare_database, sends, worked_database, worked_hub}
 use Rattle.gaz_stored.specs.Extending.{ExtendsOpened}
+use Rattle.gaz_stored.specs.Stopping.{IsCutTo, cut_receiving, cut_settling}
+use Rattle.gaz_stored.specs.Using.{LeavesStore, Uses}
 
--- two custodians
-abbrev pub county : CustodianValue
-county = record { code = 1001; name = codes "County"; own = record { uprn = []; usrn = [] } }
-
-abbrev pub town : CustodianValue
-town = record { code = 1004; name = codes "Town"; own = record { uprn = []; usrn = [] } }
+-- what is left of a file that was sent and answered
+pub record WorkedCuts : Type 0 where
+  -- it was received, and not settled; or it was answered before; or nothing of it is left
+  pub received : (told : Response)
+      → IsCutTo (sends ∷ []) (told ∷ []) (sends ∷ []) (cut_receiving ∷ [])
+  pub answered : (told : Response)
+      → IsCutTo (sends ∷ []) (told ∷ []) (sends ∷ Pose Settle ∷ []) (told ∷ cut_settling ∷ [])
+  pub nothing : (told : Response)
+      → IsCutTo (sends ∷ []) (told ∷ []) (Pose Settle ∷ []) (cut_settling ∷ [])
+  -- nothing was sent
+  pub unsent : ¬ IsCutTo [] [] (sends ∷ []) (cut_receiving ∷ [])
 
 -- Below, a connection is handed back as it was given.
-module _ {S : Type 0} (g : Ghosts S) (conn : Held S) (refused : IsRefused g conn conn) where
+module _ {S : Type 0} (g : Ghosts S) (conn : Held S) (leaves : LeavesStore g conn conn)
+    (fine : IsUnharmed (state g conn)) where
   abbrev pub in_vain : Call g
-  in_vain = record { before = conn; after = conn; came = Refused refused }
+  in_vain = record {
+    before = conn;
+    after = conn;
+    came = Refused leaves;
+    found = (state g conn).now;
+    is_found = Whole fine refl;
+  }
 
   pub record WorkedCalls : Type 0 where
-    pub nothing_asked : all_periods g (in_vain ∷ in_vain ∷ []) ≡ []
+    pub nothing_asked : AreAllPeriods g (in_vain ∷ in_vain ∷ []) []
+    pub asked : (p : Period) → ¬ AreAllPeriods g (in_vain ∷ []) (p ∷ [])
+    pub used : (register : RegisterValue) (first : Store S Brand g) (commands : List Command)
+        (responses : List Response) (is : IsRegister register)
+        (uses : Uses g register first conn conn commands responses)
+        → periods_in g (Used register first commands responses is uses)
+        ≡ period register commands responses ∷ []
     pub grows : (register grown : RegisterValue) (is : IsRegister register) (are : IsRegister grown)
         (extends : ExtendsOpened g register grown conn conn (Ok tt))
         → periods_in g (Grew register grown (Ok tt) is are extends) ≡ period grown [] [] ∷ []
-    pub none : AreInTurn g bare_database []
+    pub none : FollowOn g bare_database []
+    pub twice : FollowOn g (state g conn).now (in_vain ∷ in_vain ∷ [])
     -- another database was found
     pub elsewhere : ¬ ((state g conn).now ≡ worked_database)
-        → ¬ AreInTurn g worked_database (in_vain ∷ [])
-    pub left : left_by g bare_database (in_vain ∷ []) ≡ (state g conn).now
-    pub left_by_none : left_by g bare_database [] ≡ bare_database
+        → ¬ FollowOn g worked_database (in_vain ∷ [])
+    pub left : found_last g bare_database (in_vain ∷ []) ≡ (state g conn).now
+    pub left_by_none : found_last g bare_database [] ≡ bare_database
     -- a custodian is gone
     pub shrinks : ¬ GrownRun (county ∷ town ∷ []) worked_hub
         (period (county ∷ []) [] [] ∷ []) worked_hub
+    pub cuts : WorkedCuts

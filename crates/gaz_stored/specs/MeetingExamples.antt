@@ -11,8 +11,7 @@ comes_next old met new = old ≡ met ∷ new
 
 -- one who says GET and is told 404
 abbrev pub one_peer : List Meeting
-one_peer = Came (Some (codes "GET")) (Some [])
-    ∷ Left (Some []) (Some (codes "404")) true ∷ []
+one_peer = Came (Some (codes "GET")) (Some []) ∷ Left (Some []) (Some (codes "404")) true ∷ []
 
 -- Below, seen is how a keeper is seen.
 pub record WorkedMeetings {K : Type 0} (seen : K → Seen) : Type 0 where

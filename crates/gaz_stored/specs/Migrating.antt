@@ -92,8 +92,7 @@ module _ {S : Type 0} (g : Ghosts S) (register : RegisterValue) (before after : 
   -- why there is none of this register, where that is told: what is told of the rows of `meta`, of
   -- either schema; the database holds what it held
   pub record LacksBoth {T : Type 0} (told : Result T StoreRefusal) : Type 0 where
-    pub lacking : has_all old.schema ≡ false → has_first old.schema ≡ false
-        → told ≡ Err BadSchema
+    pub lacking : has_all old.schema ≡ false → has_first old.schema ≡ false → told ≡ Err BadSchema
     pub rows : IfErr told (λ why. Tells g before after (Err why) (register_text register))
     pub judged : IfErr told (λ why. Judges g before after (Err why) (register_text register))
     pub rows_first : IfErr told (λ why.

@@ -25,7 +25,7 @@ pub record StandForRun (register : RegisterValue) (db : Database) : Type 0 where
   pub known : AreKnown (door_of register) (hub_in db).received
   pub partial : IsPartial (blocks_of register) (hub_in db).received (hub_in db).board
 
--- and are of this register
+-- they do, and are of this register
 pub record IsStoreOf (register : RegisterValue) (db : Database) : Type 0 where
   pub stands : StandForRun register db
   pub whose : IsOf (register_text register) (rows_of db meta)

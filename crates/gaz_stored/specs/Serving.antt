@@ -32,12 +32,13 @@ pub record Rests {K : Type 0} (old new : Hub K) (met : List Meeting) : Type 0 wh
   pub still : new ≡ old
   pub met_is : met ≡ Missed ∷ []
 
--- one or the other, and what it was asked and said meanwhile
+-- one or the other
 pub data TalksOrRests {K : Type 0} (seen : K → Seen) (most : ℕ) (old new : Hub K)
     (met : List Meeting) : Type 0 where
   Talked : Talks seen most old new met → TalksOrRests seen most old new met
   Rested : Rests old new met → TalksOrRests seen most old new met
 
+-- what it was asked and said meanwhile
 abbrev pub commands_at : {K : Type 0} {seen : K → Seen} {most : ℕ} {old new : Hub K}
     {met : List Meeting} → TalksOrRests seen most old new met → List Command
 commands_at (Talked talk) = commands_of talk.conversation.exchanges

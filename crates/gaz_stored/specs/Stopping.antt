@@ -1,16 +1,54 @@
 -- What a stop leaves of a conversation over a database.
-use Rattle.std.specs.Prelude.{◌≡◌, ⊤, List, [], ◌∷◌}
+use Rattle.std.specs.Prelude.{◌≡◌, ℕ, List, [], ◌∷◌, ◌++◌, Err}
 use Rattle.sqlite.specs.Effect.{Database, IsDatabase}
 use Rattle.sqlite.specs.State.{HasCleanDisk, State}
 use Rattle.sqlite_trees.specs.Tree.{Trees}
 use Rattle.gaz_register.specs.Registers.{RegisterValue}
-use Rattle.gaz_hub.specs.Found.{HasFilesAfter, HasFilesOf}
+use Rattle.gaz_keeper.specs.declared.fault.ShelfFault.TheVariants.{Store}
+use Rattle.gaz_hub.specs.Found.{HasFilesOf}
 use Rattle.gaz_hub.specs.Hubs.{door_of}
-use Rattle.gaz_hub.specs.Standing.{HasAllOf}
-use Rattle.gaz_hub.specs.Step.{Command, HubState, Response}
+use Rattle.gaz_hub.specs.Runs.{Run}
+use Rattle.gaz_hub.specs.Step.{Command, Door, HubState, Pose, Replied, Response, Submit, Submitted}
 use Rattle.gaz_hub.specs.Stops.{HasAllTold, HasReceived}
+use Rattle.gaz_hub.specs.declared.answer.Answer.TheVariants.{Refused}
+use Rattle.gaz_hub.specs.declared.question.Question.TheVariants.{Settle}
+use Rattle.gaz_hub.specs.declared.refusal.Refusal.TheVariants.{NotReceived, ReceivedUnsettled}
 use Rattle.gaz_store.specs.Seen.{IsUnharmed}
-use Rattle.gaz_stored.specs.Runs.{IsStoreOf, StandForRun, hub_in}
+use Rattle.gaz_stored.specs.Runs.{IsStoreOf, hub_in}
+
+-- ---- a run that is cut off
+
+-- settling is cut off, which is 51; the file of a submission is received and not settled, which is
+-- 52
+abbrev pub cut_settling : Response
+cut_settling = Replied Settle (Err (NotReceived Store))
+
+abbrev pub cut_receiving : Response
+cut_receiving = Submitted (Refused (ReceivedUnsettled Store))
+
+-- of these commands and responses those are left: the first of them, and behind them one that was
+-- cut off, a settling or the next submission
+pub data IsCutTo (commands : List Command) (responses : List Response) (asked : List Command)
+    (said : List Response) : Type 0 where
+  CutSettling : (earlier later : List Command) (told more : List Response)
+      → commands ≡ earlier ++ later → responses ≡ told ++ more
+      → asked ≡ earlier ++ Pose Settle ∷ [] → said ≡ told ++ cut_settling ∷ []
+      → IsCutTo commands responses asked said
+  CutReceiving : (earlier later : List Command) (told more : List Response) (c volume : ℕ)
+      (bytes : List ℕ)
+      → commands ≡ earlier ++ Submit c volume bytes ∷ later → responses ≡ told ++ more
+      → asked ≡ earlier ++ Submit c volume bytes ∷ [] → said ≡ told ++ cut_receiving ∷ []
+      → IsCutTo commands responses asked said
+
+-- a hub went so far, and is this one
+pub record RunsCutOff (door : Door) (before : HubState) (commands : List Command)
+    (responses : List Response) (found : HubState) : Type 0 where
+  pub asked : List Command
+  pub said : List Response
+  pub cut : IsCutTo commands responses asked said
+  pub run : Run door before asked said found
+
+-- ---- what is found
 
 -- a sound database whose trees a stop at this moment may leave, on a disk that returned what was
 -- written
@@ -28,9 +66,10 @@ LeavesItself s = (trees : Trees) → HasCleanDisk s → s.may_leave trees → tr
 pub record IsFoundLater (register : RegisterValue) (before : HubState) (commands : List Command)
     (responses : List Response) (after : State) (db : Database) : Type 0 where
   pub store : IsStoreOf register db
-  -- of files that had been received, and that in hand at most, whatever became of the connection
-  pub ever : HasFilesAfter (door_of register) before commands responses (hub_in db).received
-  -- with each that one of the commands received
+  -- of a hub that went as far as some of the commands, and that in hand at most, whatever became of
+  -- the connection
+  pub run : RunsCutOff (door_of register) before commands responses (hub_in db)
+  -- with each file that one of the commands received
   pub received : HasReceived commands responses (hub_in db).received
   -- and with each that was answered New, Repeat, Taken or 52, as long as the answers are steps
   pub told : HasAllTold (door_of register) before commands responses (hub_in db).received
@@ -44,40 +83,3 @@ abbrev pub FindsLater : RegisterValue → HubState → List Command → List Res
 FindsLater register before commands responses after =
     (db : Database) → MayBeLeft after db
     → IsFoundLater register before commands responses after db
-
--- ---- stopped again and again
-
--- what the hub was asked and said in one conversation, and the database after it
-pub record Talk : Type 0 where
-  pub commands : List Command
-  pub responses : List Response
-  pub after : Database
-
--- the database after the last of them
-abbrev pub after_all : Database → List Talk → Database
-after_all db [] = db
-after_all db (talk ∷ talks) = after_all talk.after talks
-
--- what a stop left of a conversation that began with this hub
-pub record IsStopped (register : RegisterValue) (before : HubState) (talk : Talk) : Type 0 where
-  pub stands : StandForRun register talk.after
-  pub files : HasFilesAfter (door_of register) before talk.commands talk.responses
-      (hub_in talk.after).received
-
--- conversations that were stopped, each going on from what was left of the one before
-abbrev pub Stopped : RegisterValue → HubState → List Talk → Type 0
-Stopped register before [] = ⊤
-Stopped register before (talk ∷ talks) =
-    IsStopped register before talk × Stopped register (hub_in talk.after) talks
-
--- a database that stands for a partial run, with all files that were there before
-pub record GoesOnWith (register : RegisterValue) (before : HubState) (db : Database) : Type 0 where
-  pub stands : StandForRun register db
-  pub all : HasAllOf (hub_in db).received before.received
-
--- however often they are stopped
-abbrev pub StopsAreSurvived : Type 0
-StopsAreSurvived =
-    (register : RegisterValue) (db : Database) (talks : List Talk) → StandForRun register db
-    → Stopped register (hub_in db) talks
-    → GoesOnWith register (hub_in db) (after_all db talks)

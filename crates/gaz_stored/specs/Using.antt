@@ -1,6 +1,6 @@
 -- A hub that is used over the store behind a connection, from the connection that is given to the
 -- one that is handed back.
-use Rattle.std.specs.Prelude.{◌≡◌, ⊤, false, ℕ, List, Result, Ok, Err, IfErr}
+use Rattle.std.specs.Prelude.{◌≡◌, false, ℕ, List, Result, Ok, Err, IfErr}
 use Rattle.std.specs.declared.marker.Brand.{Brand}
 use Rattle.sqlite.specs.Held.{Held, state}
 use Rattle.sqlite.specs.State.{HasCleanDisk, State}
@@ -9,7 +9,9 @@ use Rattle.gaz_register.specs.Registers.{RegisterValue}
 use Rattle.gaz_register.specs.Texts.{register_text}
 use Rattle.gaz_keeper.specs.declared.shelf.Shelf as keeper
 use Rattle.gaz_tables.specs.Creating.{HasRoom}
+use Rattle.gaz_tables.specs.Stores.{HasTables}
 use Rattle.gaz_kept.specs.Opening.{Judges, Tells, has_all}
+use Rattle.gaz_kept.specs.OpeningFirst.{Untouched}
 use Rattle.gaz_kept.specs.declared.refusal.StoreRefusal.{StoreRefusal}
 use Rattle.gaz_kept.specs.declared.refusal.StoreRefusal.TheVariants.{BadSchema}
 use Rattle.gaz_store.specs.Opened.{IsMade, IsOpened, IsRefused}
@@ -19,7 +21,7 @@ use Rattle.gaz_store.specs.declared.store.Store.{Store}
 use Rattle.gaz_hub.specs.Step.{Command, HubState, Response, new_hub}
 use Rattle.gaz_stored.specs.Runs.{GoesOn, StandForRun, WentOn, hub_in}
 use Rattle.gaz_stored.specs.Stopping.{FindsLater, LeavesItself}
-use Rattle.gaz_stored.specs.Ways.{Goes, Way}
+use Rattle.gaz_stored.specs.Ways.{GoesBy, Way}
 
 -- how a store of the register of this text is seen as a keeper
 abbrev pub seen_as : {S R : Type 0} → {g : Ghosts S} → List ℕ → keeper.Ghosts (Store S R g)
@@ -39,7 +41,7 @@ pub record UsedAs {S R : Type 0} {g : Ghosts S} (N : Type 0) (text : List ℕ)
   pub first : Store S N g
   pub last : Store S N g
   pub same : IsSame given first
-  pub goes : Goes (seen_in text) register way first last
+  pub goes : GoesBy (seen_in text) register way first last
   pub back : last.tables.conn ≡ after
 
 -- What a hub of this register did and said over tables, and what a stop leaves of it. It begins as
@@ -47,25 +49,35 @@ pub record UsedAs {S R : Type 0} {g : Ghosts S} (N : Type 0) (text : List ℕ)
 -- states are those of the connection once there is a store, and in the end.
 pub record Leads (register : RegisterValue) (Begins Itself : Type 0) (hub : HubState)
     (opened after : State) (commands : List Command) (responses : List Response) : Type 0 where
-  -- where the connection is open in the end, it was
+  -- where the connection is open in the end, or the disk clean, it was
   pub harm : IsUnharmed after → IsUnharmed opened
+  pub trust : HasCleanDisk after → HasCleanDisk opened
   -- where the disk stayed clean it went on, whatever a failure shut
   pub went_on : HasCleanDisk after → Begins → WentOn register hub commands responses
   -- and to what the tables stand for, where the connection is open
   pub goes_on : IsUnharmed after → Begins → GoesOn register hub commands responses after.now
-  -- where the connection is open once there is a store: what a stop leaves in the end
-  pub stops : IsUnharmed opened → Begins → Itself
-      → FindsLater register hub commands responses after
+  -- and what a stop leaves in the end is found so, whatever a failure shut
+  pub stops : Begins → Itself → FindsLater register hub commands responses after
+
+-- the database behind a connection was opened as this store of the register, of which its only row
+-- of `meta` is
+pub record IsOpenedFrom {S R : Type 0} (g : Ghosts S) (register : RegisterValue) (before : Held S)
+    (first : Store S R g) : Type 0 where
+  pub opened : IsOpened (state g before) (state g first.tables.conn) (register_text register)
+      (seen_in (register_text register) first)
+  pub told : Tells g before first.tables.conn (Ok tt) (register_text register)
+  pub judged : Judges g before first.tables.conn (Ok tt) (register_text register)
+
+-- a store that was there is left as it was
+abbrev pub LeavesStore : {S : Type 0} → Ghosts S → Held S → Held S → Type 0
+LeavesStore g before after = HasTables (state g before).now → Untouched g before after
 
 -- Below, before and after are the connection that is given and the one that is handed back.
 module _ {S : Type 0} (g : Ghosts S) (register : RegisterValue) where
   -- A hub of this register did this and said that over the store that was opened so.
   pub record Uses {R : Type 0} (first : Store S R g) (before after : Held S)
       (commands : List Command) (responses : List Response) : Type 0 where
-    pub opened : IsOpened (state g before) (state g first.tables.conn) (register_text register)
-        (seen_in (register_text register) first)
-    -- the only row of `meta` was of this register
-    pub told : Tells g before first.tables.conn (Ok tt) (register_text register)
+    pub opened : IsOpenedFrom g register before first
     -- where the tables stand for a partial run, the hub begins with that; for what a stop leaves in
     -- the end, where it left just these tables at the beginning
     pub leads : Leads register (StandForRun register (state g before).now)
@@ -92,9 +104,11 @@ module _ {S : Type 0} (g : Ghosts S) (register : RegisterValue) where
     pub back : last.tables.conn ≡ after
     pub made : IsMade (state g before) (state g first.tables.conn) (register_text register)
         (seen_in (register_text register) first)
-    -- where there was room, the hub begins with nothing
-    pub leads : Leads register (HasRoom (state g before).now.schema) ⊤ new_hub
-        (state g first.tables.conn) (state g after) commands responses
+    -- where there was room, the hub begins with nothing; for what a stop leaves in the end, where
+    -- the connection was open once there was a store
+    pub leads : Leads register (HasRoom (state g before).now.schema)
+        (IsUnharmed (state g first.tables.conn)) new_hub (state g first.tables.conn)
+        (state g after) commands responses
 
   -- why there is no store of this register, where that is told; the database holds what it held
   pub record LacksStore {T : Type 0} (before after : Held S) (told : Result T StoreRefusal)
@@ -105,3 +119,4 @@ module _ {S : Type 0} (g : Ghosts S) (register : RegisterValue) where
     pub rows : IfErr told (λ why. Tells g before after (Err why) (register_text register))
     pub judged : IfErr told (λ why. Judges g before after (Err why) (register_text register))
     pub refused : IfErr told (λ why. IsRefused g before after)
+    pub untouched : IfErr told (λ why. Untouched g before after)

@@ -8,8 +8,9 @@ use Rattle.gaz_shelf.specs.declared.mem_shelf.MemShelf.{MemShelf}
 use Rattle.gaz_mirror.specs.Mirrored.{seen_mirrored}
 use Rattle.gaz_mirror.specs.declared.mirror.Mirror.{Mirror}
 use Rattle.gaz_hub.specs.Hubs.{MeetsDoor, Runs, door_of}
-use Rattle.gaz_hub.specs.Seen.{hub_seen}
+use Rattle.gaz_hub.specs.Seen.{RemembersNothing, hub_seen}
 use Rattle.gaz_hub.specs.Step.{Command, Pose, Replied, Response}
+use Rattle.gaz_hub.specs.Telling.{RepliesTo}
 use Rattle.gaz_hub.specs.declared.hub.Hub.{Hub}
 use Rattle.gaz_hub.specs.declared.question.Question.TheVariants.{Settle}
 use Rattle.gaz_hub.specs.declared.refusal.Refusal.{Refusal}
@@ -19,6 +20,7 @@ use Rattle.gaz_exchange.specs.Conversing.{Conversation, Transfer}
 use Rattle.gaz_exchange.specs.Exchanges.{commands_of, responses_of}
 use Rattle.gaz_exchange.specs.declared.conversation.Served.{Served}
 use Rattle.gaz_exchange.specs.declared.conversation.Stopped.{Stopped}
+use Rattle.gaz_loaded.specs.Files.{OnlyReads}
 use Rattle.gaz_stored.specs.Filling.{CanBeMirrored, RestsBare}
 use Rattle.gaz_stored.specs.Meetings.{Meeting}
 use Rattle.gaz_stored.specs.Serving.{Serves}
@@ -29,12 +31,13 @@ abbrev pub Way : Type 0 → Type 1
 Way K = K → K → List Command → List Response → Type 0
 
 -- a hub of this register was used so over a keeper
-pub record Goes {K : Type 0} (seen : K → Seen) (register : RegisterValue) (way : Way K)
+pub record GoesBy {K : Type 0} (seen : K → Seen) (register : RegisterValue) (way : Way K)
     (first last : K) : Type 0 where
   pub commands : List Command
   pub responses : List Response
   pub went : way first last commands responses
   pub harm : (seen last).unharmed → (seen first).unharmed
+  pub trust : (seen last).trusted → (seen first).trusted
   -- which was a run of its steps, where the keeper stood for a partial run
   pub runs : RestsBare seen
       → ((seen first).unharmed → CanBeMirrored (door_of register) (seen first))
@@ -71,13 +74,20 @@ Asks register (Err at_once) said first last commands responses =
 abbrev pub MirrorOf : {K : Type 0} → Ghosts K → Type 0
 MirrorOf {K} keeper = Mirror K MemShelf keeper (record { seen = memory })
 
+-- a hub of the register begins over a mirror of a keeper, which is only read meanwhile
+pub record BeginsOver {K : Type 0} (keeper : Ghosts K) (register : RegisterValue) (first : K)
+    (begun : Hub (MirrorOf keeper)) : Type 0 where
+  pub of_register : begun.register ≡ register
+  pub remembers : RemembersNothing begun
+  pub reads : OnlyReads (keeper.seen first) (keeper.seen begun.keeper.lower)
+
 -- a conversation is held, of at most so many requests
 pub record Converses {K : Type 0} (keeper : Ghosts K) (register : RegisterValue) (most : ℕ)
     (through : Transfer) (ended : Result Served Stopped) (first last : K) (commands : List Command)
     (responses : List Response) : Type 0 where
   pub begun : Hub (MirrorOf keeper)
   pub left : Hub (MirrorOf keeper)
-  pub of_register : begun.register ≡ register
+  pub begins : BeginsOver keeper register first begun
   pub conversation : Conversation (door_of begun.register) most through
       (hub_seen seen_mirrored begun) (hub_seen seen_mirrored left) ended
   pub back : left.keeper.lower ≡ last
@@ -90,9 +100,12 @@ pub record SettlesAndServes {K : Type 0} (keeper : Ghosts K) (register : Registe
     (responses : List Response) : Type 0 where
   pub settled : Result (Unit {0}) Refusal
   pub begun : Hub (MirrorOf keeper)
+  pub mid : Hub (MirrorOf keeper)
   pub left : Hub (MirrorOf keeper)
-  pub of_register : begun.register ≡ register
-  pub serves : Serves seen_mirrored most served begun left met
+  pub begins : BeginsOver keeper register first begun
+  pub settles : RepliesTo (hub_seen seen_mirrored) begun.register begun mid Settle settled
+  pub of_register : mid.register ≡ register
+  pub serves : Serves seen_mirrored most served mid left met
   pub back : left.keeper.lower ≡ last
   pub asked : commands ≡ Pose Settle ∷ serves.commands
   pub told : responses ≡ Replied Settle settled ∷ serves.responses

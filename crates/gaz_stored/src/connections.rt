@@ -1,3 +1,4 @@
+//! A hub over a mirror answers the peers that come.
 ghost use Rattle.std.specs.Prelude.{◌≡◌};
 ghost use Rattle.gaz_keeper.specs.Keeper.{IsNotOpen};
 ghost use Rattle.gaz_mirror.specs.Mirrored.{seen_mirrored};

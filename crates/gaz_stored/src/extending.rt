@@ -3,10 +3,9 @@ ghost use Rattle.std.specs.Prelude.{◌≡◌, false, IfOk};
 ghost use Rattle.gaz_stored.specs.Extending.{ExtendsOpened};
 ghost use Rattle.gaz_stored.specs.Using.{LacksStore};
 
-use crate::handing::HandedBack;
 use gaz_register::Register;
 use gaz_shelf::Seed;
-use gaz_store::{ExtendFault, Store};
+use gaz_store::{ExtendFault, Store, StoreRefusal};
 use sqlite::{Alter, Connection};
 use std::alloc::Global;
 use std::marker::Brand;
@@ -23,27 +22,18 @@ pub fn extend_opened<S: Alter + Drop>(
     conn: Connection<S>,
     register: Register,
     grown: Register,
-) -> HandedBack<S, Result<(), ExtendFault>>
+) -> (Connection<S>, Result<Result<(), ExtendFault>, StoreRefusal>)
     requires { conn.in_transaction ≡ false }
-    ensures over { result.conn.in_transaction ≡ false }
-    ensures extends { IfOk result.told
-        (ExtendsOpened S.Store register grown conn result.conn) }
-    ensures lacks { LacksStore S.Store register conn result.conn result.told }
+    ensures over { result.0.in_transaction ≡ false }
+    ensures extends { IfOk result.1 (ExtendsOpened S.Store register grown conn result.0) }
+    ensures lacks { LacksStore S.Store register conn result.0 result.1 }
 {
     match Store::<S, Brand>::open(alloc, seed, conn, &register) {
         Ok(store) => {
             let (mut store, mut register) = (store, register);
             let told = store.extend(&mut register, grown);
-            HandedBack {
-                conn: store.into_connection(),
-                at_hand: None,
-                told: Ok(told),
-            }
+            (store.into_connection(), Ok(told))
         }
-        Err((conn, refusal)) => HandedBack {
-            conn,
-            at_hand: None,
-            told: Err(refusal),
-        },
+        Err((conn, refusal)) => (conn, Err(refusal)),
     }
 }

@@ -31,8 +31,7 @@ pub(crate) fn fill<L: Listed>(
 ) -> Option<MemShelf>
     requires { IsNotOpen (L.seen lower.old).progress }
     ensures reads { OnlyReads (L.seen lower.old) (L.seen lower.new) }
-    ensures filled { ForSome result
-        (IsFilled register.now (L.seen lower.old) (L.seen lower.new)) }
+    ensures filled { ForSome result (IsFilled register.now (L.seen lower.old) (L.seen lower.new)) }
 {
     let Ok(codes) = codes_of(alloc, register) else {
         return None;

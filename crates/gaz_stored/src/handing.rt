@@ -4,7 +4,7 @@ use gaz_shelf::MemShelf;
 use gaz_store::StoreRefusal;
 use sqlite::{Alter, Connection};
 
-/// What is left of a store that was used, or that was looked for.
+/// What is left of a store that was used with all of it at hand, or that was looked for.
 #[derive(Drop)]
 pub struct HandedBack<S: Alter + Drop, T: Drop> {
     /// The connection, outside a transaction.

@@ -5,10 +5,9 @@ ghost use Rattle.gaz_keeper.specs.Keeper.{Idle};
 ghost use Rattle.gaz_keeper.specs.Telling.{IsNotJudging};
 ghost use Rattle.gaz_hub.specs.Hubs.{door_of};
 ghost use Rattle.gaz_hub.specs.Laws.{StandsForRun};
-ghost use Rattle.gaz_hub.specs.Seen.{RemembersNothing};
-ghost use Rattle.gaz_loaded.specs.Files.{OnlyReads};
 ghost use Rattle.gaz_mirror.specs.Mirrored.{seen_mirrored};
 ghost use Rattle.gaz_stored.specs.Filling.{CanBeMirrored, RestsBare};
+ghost use Rattle.gaz_stored.specs.Ways.{BeginsOver};
 ghost use Rattle.gaz_shelf.specs.Mem.{seen_in};
 
 use crate::filling::fill;
@@ -46,10 +45,8 @@ pub fn mirrored<L: Listed + Drop>(
     keeper: L,
 ) -> Hub<Mirror<L, MemShelf>>
     requires { IsNotJudging L.seen keeper }
-    ensures register { result.register ≡ register }
-    ensures remembers { RemembersNothing result }
+    ensures begins { BeginsOver L.Shelf register keeper result }
     ensures idle { IsNotJudging seen_mirrored result.keeper }
-    ensures reads { OnlyReads (L.seen keeper) (L.seen result.keeper.lower) }
     ensures stands { RestsBare L.seen → CanBeMirrored (door_of register) (L.seen keeper)
         → (seen_mirrored result.keeper).unharmed
         → StandsForRun (door_of register) (seen_mirrored result.keeper) }

@@ -6,7 +6,7 @@ ghost use Rattle.gaz_exchange.specs.Conversing.{StopsByFault, transfer};
 ghost use Rattle.gaz_stored.specs.Asking.{asked};
 ghost use Rattle.gaz_stored.specs.Meetings.{WithPeers};
 ghost use Rattle.gaz_stored.specs.Serving.{EndsEarly};
-ghost use Rattle.gaz_stored.specs.Ways.{Asks, Converses, Goes, SettlesAndServes};
+ghost use Rattle.gaz_stored.specs.Ways.{Asks, Converses, GoesBy, SettlesAndServes};
 
 use crate::asking::ask_hub;
 use crate::connections::{MOST_REQUESTS, serve_on};
@@ -34,7 +34,7 @@ pub(crate) fn converse_with<K: Listed + Drop, R: Source, W: Sink>(
     most: u64,
 ) -> (K, Option<MemShelf>, Result<Served, Stopped>)
     requires { IsNotOpen (K.seen keeper).progress }
-    ensures converses { Goes K.seen register (Converses K.Shelf register most
+    ensures converses { GoesBy K.seen register (Converses K.Shelf register most
         (transfer R.remaining W.contents r.old r.new w.old w.new) result.2) keeper result.0 }
     ensures failed { StopsByFault R.failed W.failed r.new w.new result.2 }
 {
@@ -57,8 +57,9 @@ pub(crate) fn serve_with<P: Peers, K: Listed + Drop>(
 ) -> (K, Option<MemShelf>, u64)
     requires { IsNotOpen (K.seen keeper).progress }
     ensures serves { WithPeers P.meets P.Reader.Source.failed P.Writer.Sink.failed
-        (λ met. Goes K.seen register (SettlesAndServes K.Shelf register MOST_REQUESTS result.2 met)
-        keeper result.0) peers.old peers.new }
+        (λ met. GoesBy K.seen register
+        (SettlesAndServes K.Shelf register MOST_REQUESTS result.2 met) keeper result.0)
+        peers.old peers.new }
     ensures many { EndsEarly connections result.2 result.1 }
 {
     let mut hub = mirrored(alloc, seed, register, keeper);
@@ -78,7 +79,7 @@ pub(crate) fn ask_with<K: Inbox + Drop>(
     file: Option<&[u8]>,
 ) -> (K, Said)
     requires { IsNotOpen (K.seen keeper).progress }
-    ensures { Goes K.seen register (Asks register
+    ensures { GoesBy K.seen register (Asks register
         (asked call.entry (option_map (λ bytes. bytes.now) file.entry)) result.1) keeper result.0 }
 {
     let mut hub = Hub::new(alloc, register, keeper);

@@ -1,6 +1,6 @@
 //! What a reader of the definitions may rely on.
-ghost use Rattle.sqlite.specs.Held.{Held};
-ghost use Rattle.gaz_store.specs.Opened.{IsRefused};
+ghost use Rattle.sqlite.specs.Held.{Held, state};
+ghost use Rattle.gaz_store.specs.Seen.{IsUnharmed};
 ghost use Rattle.gaz_stored.specs.CallExamples.{WorkedCalls};
 ghost use Rattle.gaz_stored.specs.Calls.{CallsAreOne};
 ghost use Rattle.gaz_stored.specs.Examples.{WorkedExamples};
@@ -9,7 +9,7 @@ ghost use Rattle.gaz_stored.specs.FillingExamples.{WorkedFilling};
 ghost use Rattle.gaz_stored.specs.MeetingExamples.{WorkedMeetings};
 ghost use Rattle.gaz_stored.specs.Migrating.{MigratedStands};
 ghost use Rattle.gaz_stored.specs.Reopening.{OpensAgain};
-ghost use Rattle.gaz_stored.specs.Stopping.{StopsAreSurvived};
+ghost use Rattle.gaz_stored.specs.Using.{LeavesStore};
 
 use gaz_keeper::Inbox;
 use sqlite::Alter;
@@ -26,8 +26,8 @@ pub fn worked_filling()
 
 /// What calls one after another ask and leave, on worked examples.
 pub fn worked_calls<S: Alter>()
-    ensures { (conn : Held S) (refused : IsRefused S.Store conn conn)
-        → WorkedCalls S.Store conn refused }
+    ensures { (conn : Held S) (leaves : LeavesStore S.Store conn conn)
+        (fine : IsUnharmed (state S.Store conn)) → WorkedCalls S.Store conn leaves fine }
 {}
 
 /// Which peers came, and that nobody serves who met none, on worked examples.
@@ -41,17 +41,11 @@ pub fn volumes_stay()
 {}
 
 /// Calls one after another over a database whose tables are a store's that stands for a partial
-/// run, each under a register of its own, of which any may be refused: they are one run of one hub
-/// over registers of which each extends the one before, and the tables are a store's of the last.
+/// run, each under a register of its own, of which any may be refused or cut off by a stop: they
+/// are one run of one hub over registers of which each extends the one before, the tables are a
+/// store's of the last, and have each file that one of them received.
 pub fn calls_are_one<S: Alter>()
     ensures { CallsAreOne S.Store }
-{}
-
-/// Conversations one after another, each of which was stopped and goes on from what was left of the
-/// one before, however many: what is left stands for a partial run, and has each file that was
-/// there before.
-pub fn stops_are_survived()
-    ensures { StopsAreSurvived }
 {}
 
 /// Tables of schema 1 that stood for a partial run stand for the same hub once they are migrated,

@@ -1,5 +1,5 @@
 //! A hub over the store behind a connection: a conversation over one that is made, one call, and
-//! the connections of a listener; a store's register grows, and a store of schema 1 is migrated.
+//! peers that come one after another; a store's register grows, and one of schema 1 is migrated.
 #![tactic(auto)]
 
 mod answering;

@@ -1,13 +1,13 @@
 //! The store of schema 1 behind a connection becomes one of schema 2; the connection is handed
 //! back.
-ghost use Rattle.std.specs.Prelude.{◌≡◌, false, IfOk};
+ghost use Rattle.std.specs.Prelude.{◌≡◌, false, IfErr, IfOk};
 ghost use Rattle.gaz_stored.specs.Migrating.{LacksBoth, MigratesOpened, StopsMoving, told_of};
+ghost use Rattle.gaz_stored.specs.Using.{LeavesStore};
 
-use crate::handing::HandedBack;
 use gaz_kept::migrating::is_first;
 use gaz_register::Register;
 use gaz_shelf::Seed;
-use gaz_store::Store;
+use gaz_store::{Store, StoreRefusal};
 use sqlite::{Alter, Connection};
 use std::alloc::Global;
 use std::marker::Brand;
@@ -42,25 +42,17 @@ pub fn migrate_opened<S: Alter + Drop>(
     seed: Seed,
     conn: Connection<S>,
     register: &Register,
-) -> HandedBack<S, Migration>
+) -> (Connection<S>, Result<Migration, StoreRefusal>)
     requires { conn.in_transaction ≡ false }
-    ensures over { result.conn.in_transaction ≡ false }
-    ensures migrates { IfOk result.told
-        (MigratesOpened S.Store register.now conn result.conn) }
-    ensures lacks { LacksBoth S.Store register.now conn result.conn result.told }
-    ensures stops { StopsMoving S.Store register.now conn result.conn }
+    ensures over { result.0.in_transaction ≡ false }
+    ensures migrates { IfOk result.1 (MigratesOpened S.Store register.now conn result.0) }
+    ensures lacks { LacksBoth S.Store register.now conn result.0 result.1 }
+    ensures untouched { IfErr result.1 (λ _. LeavesStore S.Store conn result.0) }
+    ensures stops { StopsMoving S.Store register.now conn result.0 }
 {
     let first = is_first(&conn);
     match Store::<S, Brand>::migrate(alloc, seed, conn, register) {
-        Ok(store) => HandedBack {
-            conn: store.into_connection(),
-            at_hand: None,
-            told: Ok(told_of(first)),
-        },
-        Err((conn, refusal)) => HandedBack {
-            conn,
-            at_hand: None,
-            told: Err(refusal),
-        },
+        Ok(store) => (store.into_connection(), Ok(told_of(first))),
+        Err((conn, refusal)) => (conn, Err(refusal)),
     }
 }

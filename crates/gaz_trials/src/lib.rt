@@ -1,5 +1,6 @@
 //! What no reply, no contract and no run of a program tells: what keepers in memory answer to
-//! one list of calls; which field of an item is at fault; and files that are read and written.
+//! one list of calls; which field of an item is at fault; files that are read and written; and what
+//! calls answer that no program makes.
 #![tactic(auto)]
 
 #[cfg(test)]
@@ -12,5 +13,7 @@ mod files_back;
 mod mirrors;
 #[cfg(test)]
 mod records;
+#[cfg(test)]
+mod unasked;
 #[cfg(test)]
 mod wanted;

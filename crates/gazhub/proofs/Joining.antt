@@ -1,6 +1,5 @@
 -- Calls over the same files are one run of one hub.
-use Rattle.std.proofs.Common.{◌≡◌, List, [], ◌∷◌, map, ◌∙◌, ap, refl, subst, sym}
-use Rattle.std.specs.Prelude.{Option, Some}
+use Rattle.std.proofs.Common.{◌≡◌, List, [], ◌∷◌, map, ◌∙◌, Option, Some, ap, refl, subst, sym}
 use Rattle.sqlite.specs.Effect.{Database}
 use Rattle.sqlite.specs.Files.{file_state, over_files}
 use Rattle.sqlite.specs.Held.{Held}
@@ -10,7 +9,6 @@ use Rattle.sqlite_catalog.proofs.ReadLemmas.{lists_once}
 use Rattle.sqlite_catalog.specs.Listing.{Lists}
 use Rattle.sqlite_disk.specs.declared.Disk as disk
 use Rattle.sqlite_disk.specs.declared.Files.{Files}
-use Rattle.sqlite_schema.specs.declared.schema.Schema.{Schema}
 use Rattle.sqlite_store.specs.declared.store.FileStore.{FileStore}
 use Rattle.sqlite_trees.specs.Objects.{catalog_tree}
 use Rattle.sqlite_trees.specs.Tree.{Trees}
@@ -19,16 +17,12 @@ use Rattle.gaz_stored.proofs.Calling as calling
 use Rattle.gaz_stored.proofs.Reopening as reopening
 use Rattle.gaz_stored.proofs.Using.{made_alone}
 use Rattle.gaz_stored.specs.Calls as stored
-use Rattle.gaz_stored.specs.Runs.{GoesOn, IsStoreOf}
+use Rattle.gaz_stored.specs.Calls.{CutOff, IsFoundAfter, Whole}
+use Rattle.gaz_stored.specs.Reopening.{HasStoreOf}
+use Rattle.gaz_stored.specs.Runs.{GoesOn}
 use Rattle.gaz_hub.specs.Step.{new_hub}
 use Rattle.gazhub.specs.Filing.{Closes, Connects}
-use Rattle.gazhub.specs.Joined.{AreInTurn, CallsAreOne, FileCall, NextOpens, call_over}
-
-abbrev database : Schema → Trees → Database
-database schema trees = record { schema = schema; trees = trees }
-
-same_parts : (s t : Schema) (a b : Trees) → s ≡ t → a ≡ b → database s a ≡ database t b
-same_parts s t a b p q = ap (λ (x : Schema). database x a) p ∙ ap (λ (x : Trees). database t x) q
+use Rattle.gazhub.specs.Joined.{CallsAreOne, FileCall, FollowOn, IsGiven, IsPassedOn, NextOpens, call_over, came_over}
 
 module _ {D : Type 0} (g : disk.Ghosts D) where
   -- what a connection that was closed held, the next one shows
@@ -42,29 +36,37 @@ module _ {D : Type 0} (g : disk.Ghosts D) where
       let trees : (file_state conn).now.trees ≡ (file_state old).now.trees = now ∙ committed ∙ sym before in
       let lists = (closes.live fine.is_open).0.lists in
       let listed = subst (λ (t : Trees). Lists (t catalog_tree) (file_state conn).now.schema) trees (opened.1 opened.0.is_open).0.lists in
-      same_parts (file_state conn).now.schema (file_state old).now.schema (file_state conn).now.trees (file_state old).now.trees (lists_once _ _ _ listed lists) trees
+      let schema : (file_state conn).now.schema ≡ (file_state old).now.schema = lists_once _ _ _ listed lists in
+      λ i. record { schema = schema i; trees = trees i }
 
-  -- so each call finds what the one before left
-  in_turn : (old : Held (FileStore D g)) (left : Option (Files D)) (calls : List (FileCall g)) → IsUnharmed (file_state old) → Closes g old left → AreInTurn g left calls
-      → stored.AreInTurn (over_files {D = D} {g = g}) (file_state old).now (map (call_over g) calls)
-  in_turn old left [] fine closes turn = tt
-  in_turn old left (call ∷ later) fine closes turn = (
-    shown_again old call.over.conn call.files fine (subst (Closes g old) turn.0 closes) call.over.connects turn.1,
-    turn.2,
-    in_turn call.over.after call.left later turn.2 call.over.closes turn.3,
-  )
+  -- a call that is given the files shows it
+  given_shows : (old : Held (FileStore D g)) (left : Option (Files D)) (next : FileCall g) → IsUnharmed (file_state old) → Closes g old left → IsGiven g left next → (file_state (came_over g next.call).conn).now ≡ (file_state old).now
+  given_shows old left next fine closes given =
+      shown_again old (came_over g next.call).conn next.files fine (subst (Closes g old) given.0 closes) (came_over g next.call).connects given.1
+
+  -- so each finds what is found after the one before
+  passes_on : (before after : Held (FileStore D g)) (found : Database) (is_found : IsFoundAfter (over_files {D = D} {g = g}) before after found) (left : Option (Files D)) (next : FileCall g) → Closes g after left → IsPassedOn g is_found left next
+      → (file_state (came_over g next.call).conn).now ≡ found
+  passes_on before after found (Whole fine same) left next closes given = given_shows after left next fine closes given ∙ same
+  passes_on before after found (CutOff itself may) left next closes shows = shows
+
+  follow_on : (call : FileCall g) (later : List (FileCall g)) → FollowOn g call later → stored.FollowOn (over_files {D = D} {g = g}) call.found (map (call_over g) later)
+  follow_on call [] follow = tt
+  follow_on call (next ∷ later) follow =
+      let over = came_over g call.call in
+      (passes_on over.conn over.after call.found call.is_found call.left next over.closes follow.0, follow_on next later follow.1)
 
   pub calls_are_one : CallsAreOne g
   calls_are_one = record {
-    opened = λ register first later is store fine turn.
-        calling.calls_are_one (over_files {D = D} {g = g}) register (file_state first.over.conn).now (map (call_over g) (first ∷ later)) is store (refl, fine, in_turn first.over.after first.left later fine first.over.closes turn);
-    behind = λ register old left calls is store fine closes turn.
-        calling.calls_are_one (over_files {D = D} {g = g}) register (file_state old).now (map (call_over g) calls) is store (in_turn old left calls fine closes turn);
+    opened = λ register first later is store follow.
+        calling.calls_are_one (over_files {D = D} {g = g}) register (file_state (came_over g first.call).conn).now (map (call_over g) (first ∷ later)) is store (refl, follow_on first later follow);
+    behind = λ register old left first later is store fine closes given follow.
+        calling.calls_are_one (over_files {D = D} {g = g}) register (file_state old).now (map (call_over g) (first ∷ later)) is store (given_shows old left first fine closes given, follow_on first later follow);
     made = λ register files left conn after makes room fine.
-        let alone = made_alone register (file_state conn) makes.store makes.made room (subst (λ k. IsUnharmed (file_state k)) (sym makes.back) fine) in
+        let alone = made_alone register conn makes.store makes.made room (subst (λ k. IsUnharmed (file_state k)) (sym makes.back) fine) in
         subst (λ k. GoesOn register new_hub [] [] (file_state k).now) makes.back alone;
   }
 
   pub next_opens : NextOpens g
   next_opens register old conn next files store fine closes connects clean =
-      reopening.opens (over_files {D = D} {g = g}) register conn next (subst (IsStoreOf register) (sym (shown_again old conn files fine closes connects clean)) store)
+      reopening.opens (over_files {D = D} {g = g}) register conn next (subst (HasStoreOf register) (sym (shown_again old conn files fine closes connects clean)) store)

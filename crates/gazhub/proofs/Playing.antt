@@ -1,8 +1,7 @@
 -- What is told of a conversation over a store in memory.
 use Rattle.std.proofs.Common.{◌≡◌, ℕ, List, Ok, Result, IsTrue, refl, subst, sym}
-use Rattle.std.specs.Prelude.{IfOk}
-use Rattle.sqlite.specs.Files.{over_files}
-use Rattle.gaz_quiet.specs.Databases.{Quiet, no_tables, quiet_state}
+use Rattle.sqlite.specs.Files.{file_state, over_files}
+use Rattle.gaz_quiet.specs.Databases.{Quiet, no_tables}
 use Rattle.gaz_quiet.proofs.Clean.{quiet_is_clean}
 use Rattle.gaz_register.specs.Reading.{register_of}
 use Rattle.gaz_register.specs.Registers.{RegisterValue}
@@ -15,7 +14,6 @@ use Rattle.gaz_exchange.specs.declared.conversation.Served.{Served}
 use Rattle.gaz_exchange.specs.declared.conversation.Stopped.{Stopped}
 use Rattle.gaz_tables.proofs.CreatingExamples.{room_in_nothing}
 use Rattle.gaz_tables.specs.Creating.{HasRoom}
-use Rattle.gaz_kept.specs.declared.refusal.StoreRefusal.{StoreRefusal}
 use Rattle.gaz_store.specs.Seen.{IsUnharmed}
 use Rattle.gaz_stored.specs.Runs.{hub_in}
 use Rattle.gaz_stored.specs.Using.{UsesMade, seen_as}
@@ -23,14 +21,14 @@ use Rattle.gaz_stored.specs.Ways.{Converses}
 use Rattle.gazhub.specs.Playing.{Plays}
 
 -- the files give what was written, so nothing harms a database that is open
-unharmed : (after : Quiet) → IsTrue (quiet_state after).is_open → IsUnharmed (quiet_state after)
+unharmed : (after : Quiet) → IsTrue (file_state after).is_open → IsUnharmed (file_state after)
 unharmed after is_open = record { clean = quiet_is_clean after; is_open = is_open }
 
 pub plays : (text : List ℕ) (most : ℕ) (through : Transfer) (ended : Result Served Stopped) (register : RegisterValue) (before after : Quiet)
-    → register_of text ≡ Ok register → (quiet_state before).now.schema ≡ no_tables → UsesMade over_files register (Converses (seen_as (register_text register)) register most through ended) before after
+    → register_of text ≡ Ok register → (file_state before).now.schema ≡ no_tables → UsesMade over_files register (Converses (seen_as (register_text register)) register most through ended) before after
     → Plays text most through ended
 plays text most through ended register before after described empty told =
-    let room : HasRoom (quiet_state before).now.schema = subst HasRoom (sym empty) room_in_nothing in
+    let room : HasRoom (file_state before).now.schema = subst HasRoom (sym empty) room_in_nothing in
     let d = door_of register in
     let went = told.leads.went_on (quiet_is_clean after) room in
     record {
@@ -43,11 +41,5 @@ plays text most through ended register before after described empty told =
       hub = went.last;
       abides = abides_after d new_hub _ _ went.last refl went.went.abides;
       answers = went.went.answers;
-      tables = λ is_open. abides_after d new_hub _ _ (hub_in (quiet_state after).now) refl (told.leads.goes_on (unharmed after is_open) room).went.abides;
+      tables = λ is_open. abides_after d new_hub _ _ (hub_in (file_state after).now) refl (told.leads.goes_on (unharmed after is_open) room).went.abides;
     }
-
--- the same of what is left once a conversation was held
-pub plays_held : (text : List ℕ) (most : ℕ) (through : Transfer) (ended : Result Served Stopped) (register : RegisterValue) (before after : Quiet) (held : Result (Result Served Stopped) StoreRefusal)
-    → held ≡ Ok ended → register_of text ≡ Ok register → (quiet_state before).now.schema ≡ no_tables → IfOk held (λ ended. UsesMade over_files register (Converses (seen_as (register_text register)) register most through ended) before after) → Plays text most through ended
-plays_held text most through ended register before after held is described empty told =
-    plays text most through ended register before after described empty (subst (λ h. IfOk h (λ ended. UsesMade over_files register (Converses (seen_as (register_text register)) register most through ended) before after)) is told)

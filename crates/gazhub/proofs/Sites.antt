@@ -1,37 +1,43 @@
 -- What comes of looking for a register and for a store's files, and of peers.
-use Rattle.std.proofs.Common.{◌≡◌, ◌∙◌, ◌++◌, ℕ, List, [], ◌∷◌, Ok, Err, Result, ap, map, subst}
-use Rattle.std.specs.Prelude.{IsErrAnd, None}
+use Rattle.std.proofs.Common.{◌≡◌, ◌∙◌, ◌++◌, List, [], ◌∷◌, None, Ok, Err, Result, IfErr, IfOk, IsErrAnd, Option, OnErr, ℕ, ap, map, refl, subst}
+use Rattle.std.proofs.lemmas.Result.{err_from_is_err_and}
 use Rattle.sqlite_disk.specs.declared.Files.{Files}
 use Rattle.gaz_kept.specs.declared.refusal.StoreRefusal.TheVariants.{Fault}
 use Rattle.gaz_register.specs.Registers.{RegisterValue}
-use Rattle.gaz_stored.specs.Meetings.{AreMet, Meeting}
-use Rattle.gazhub.specs.Sites.{Deed, Does, FindsRegister, Met, NoRegister, Opened, NoFiles, WithFiles, WithRegister}
+use Rattle.gaz_stored.specs.Meetings.{AreMet, Meeting, WithPeers}
+use Rattle.gazhub.specs.Sites.{Closed, Deed, Does, FindsRegister, Met, NoRegister, Opened, NoFiles, WithFiles, WithRegister}
 use Rattle.gazhub.specs.declared.files.NoHub.{NoHub}
 use Rattle.gazhub.specs.declared.files.NoHub.TheVariants as none
-use Rattle.gazhub.specs.declared.purpose.Purpose.{Purpose}
-
--- what `?` hands on
-is_err : {A : Type 0} (told : Result A NoHub) (why : NoHub) → IsErrAnd told (λ e. e ≡ why) → told ≡ Err why
-is_err (Ok said) why is = absurd is
-is_err (Err e) why is = ap Err is
+use Rattle.gazhub.specs.declared.site.Purpose.{Purpose}
 
 module _ {S D A : Type 0} (done : S → Deed D → S → Type 0) (before after : S) (path : List ℕ) where
   pub without_register : (Then : RegisterValue → S → S → Result A NoHub → Type 0) (told : Result A NoHub) (why : NoHub) → FindsRegister done before after path (Err why) → IsErrAnd told (λ e. e ≡ why)
       → WithRegister done path Then before after told
-  without_register Then told why finds is = NoRegister why finds (is_err told why is)
+  without_register Then told why finds is =
+      let e = err_from_is_err_and told is in
+      NoRegister why finds (e.1 ∙ ap Err e.2)
 
   pub without_files : (purpose : Purpose) (Then : Files D → S → S → Result A NoHub → Type 0) (told : Result A NoHub) (why : NoHub) → (why ≡ none.Store Fault) × done before (Opened path purpose None) after
       → IsErrAnd told (λ e. e ≡ why) → WithFiles done path purpose Then before after told
-  without_files purpose Then told why finds is = NoFiles finds.1 (is_err told why is ∙ ap Err finds.0)
+  without_files purpose Then told why finds is =
+      let e = err_from_is_err_and told is in
+      NoFiles finds.1 (e.1 ∙ ap Err (e.2 ∙ finds.0))
 
 module _ {S D : Type 0} (done : S → Deed D → S → Type 0) where
   -- deeds behind other deeds
-  pub does_then : (deeds more : List (Deed D)) (before between after : S) → Does done before deeds between → Does done between more after → Does done before (deeds ++ more) after
+  does_then : (deeds more : List (Deed D)) (before between after : S) → Does done before deeds between → Does done between more after → Does done before (deeds ++ more) after
   does_then [] more before between after still later = subst (λ s. Does done s more after) still later
   does_then (deed ∷ deeds) more before between after does later = (does.0, does.1, does_then deeds more does.0 between after does.2 later)
 
-  -- what came of peers, one after another, is among them
-  pub all_met : (meets : S → Meeting → S → Type 0) (tells : (old new : S) (met : Meeting) → meets old met new → done old (Met met) new) (met : List Meeting) (old new : S) → AreMet meets old met new
-      → Does done old (map Met met) new
-  all_met meets tells [] old new still = still
-  all_met meets tells (next ∷ later) old new are = (are.0, tells old are.0 next are.1, all_met meets tells later are.0 new are.2)
+  module _ (meets : S → Meeting → S → Type 0) (tells : (old new : S) (met : Meeting) → meets old met new → done old (Met met) new) where
+    -- what came of peers, one after another, is among them
+    all_met : (met : List Meeting) (old new : S) → AreMet meets old met new → Does done old (map Met met) new
+    all_met [] old new still = still
+    all_met (next ∷ later) old new are = (are.0, tells old are.0 next are.1, all_met later are.0 new are.2)
+
+    -- peers were answered or weren't, and the files were given back
+    pub met_in : {R W H E : Type 0} (read_failed : R → R → Type 0) (write_failed : W → W → Type 0) (Then : H → List Meeting → Type 0) (left : Option (Files D)) (mid served after : S) (held : Result H E) → IfOk held (λ how. WithPeers meets read_failed write_failed (Then how) mid served)
+        → IfErr held (λ _. served ≡ mid) → done served (Closed left) after → (met : List Meeting) × Does done mid (map Met met ++ Closed left ∷ []) after × IfOk held (λ how. Then how met) × OnErr held (met ≡ [])
+    met_in read_failed write_failed Then left mid served after (Ok how) answers still closed =
+        (answers.met, does_then (map Met answers.met) (Closed left ∷ []) mid served after (all_met answers.met mid served answers.are_met) (after, closed, refl), answers.then, tt)
+    met_in read_failed write_failed Then left mid served after (Err why) answers still closed = ([], (after, subst (λ s. done s (Closed left) after) still closed, refl), tt, refl)

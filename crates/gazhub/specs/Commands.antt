@@ -100,8 +100,8 @@ IsExplained _ ending = ending ≡ Usage
 module _ {S D : Type 0} (done : S → Deed D → S → Type 0) (g : disk.Ghosts D) (text : List ℕ)
     (most : ℕ) (before after : S) (through : Transfer) where
   -- a conversation is held, for which nothing is done at a site
-  abbrev pub Converses : Ending → Type 0
-  Converses ending = Holds text most through ending × (after ≡ before)
+  abbrev pub EndsPlaying : Ending → Type 0
+  EndsPlaying ending = Holds text most through ending × (after ≡ before)
 
   -- connections are answered
   pub record EndsServing (places : Places) (serving : Serving) (ending : Ending) : Type 0 where
@@ -111,7 +111,7 @@ module _ {S D : Type 0} (done : S → Deed D → S → Type 0) (g : disk.Ghosts 
 
   -- how the program ends, by the command
   abbrev pub EndsAt : Command → Ending → Type 0
-  EndsAt Play ending = Converses ending
+  EndsAt Play ending = EndsPlaying ending
   EndsAt (Init places) ending = Finishes (InitComesTo done g places before after) through ending
   EndsAt (Ask places call) ending =
       Finishes (AskComesTo done g places call before after) through ending
@@ -136,7 +136,7 @@ module _ {S D : Type 0} (done : S → Deed D → S → Type 0) (g : disk.Ghosts 
 
   -- a conversation is asked for, or it is looked for what the words mean
   abbrev pub EndsAtWords : List (List ℕ) → Bool → Ending → Type 0
-  EndsAtWords words true ending = Converses ending
+  EndsAtWords words true ending = EndsPlaying ending
   EndsAtWords words false ending = EndsByMeaning words ending
 
   -- how the program ends by its words, none where they can't be read, and by whether the system

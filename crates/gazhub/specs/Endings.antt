@@ -8,21 +8,14 @@ use Rattle.gaz_kept.specs.declared.refusal.StoreRefusal.TheVariants as refusal
 use Rattle.gaz_register.specs.declared.fault.RegFault.{RegFault}
 use Rattle.gaz_register.specs.declared.fault.RegFault.TheVariants as fault
 use Rattle.gazhub.specs.declared.ending.Ending.{Ending}
-use Rattle.gazhub.specs.declared.ending.Ending.TheVariants.{Done, NotDone, Usage, Memory}
-use Rattle.gazhub.specs.declared.ending.Ending.TheVariants.{ReadFault, WriteFault, NoHub, Lost}
-use Rattle.gazhub.specs.declared.ending.Ending.TheVariants.{Failed}
+use Rattle.gazhub.specs.declared.ending.Ending.TheVariants as ending
 
 -- the exit status
 abbrev pub status_of : Ending → ℕ
-status_of Done = 0
-status_of NotDone = 1
-status_of Usage = 2
-status_of Memory = 3
-status_of ReadFault = 3
-status_of WriteFault = 3
-status_of (NoHub why) = 3
-status_of (Lost why) = 3
-status_of (Failed why) = 3
+status_of ending.Done = 0
+status_of ending.NotDone = 1
+status_of ending.Usage = 2
+status_of _ = 3
 
 -- the line that names the fault of a register
 abbrev pub register_line : RegFault → List ℕ
@@ -52,21 +45,19 @@ no_hub_line none.Memory = codes "gazhub: Memory\n"
 
 -- the line on standard error, which names the fault
 abbrev pub line_of : Ending → List ℕ
-line_of Done = []
-line_of NotDone = []
-line_of Usage = []
-line_of Memory = codes "gazhub: Memory\n"
-line_of ReadFault = codes "gazhub: ReadFault\n"
-line_of WriteFault = codes "gazhub: WriteFault\n"
-line_of (NoHub why) = no_hub_line why
-line_of (Lost why) = no_hub_line why
-line_of (Failed why) = error_line why
+line_of ending.Memory = codes "gazhub: Memory\n"
+line_of ending.ReadFault = codes "gazhub: ReadFault\n"
+line_of ending.WriteFault = codes "gazhub: WriteFault\n"
+line_of (ending.NoHub why) = no_hub_line why
+line_of (ending.Lost why) = no_hub_line why
+line_of (ending.Failed why) = error_line why
+line_of _ = []
 
 -- nothing is printed on standard output: at usage, and at each fault but that of the output and
 -- that of a hub that was lost
 abbrev pub is_silent : Ending → Bool
-is_silent Done = false
-is_silent NotDone = false
-is_silent WriteFault = false
-is_silent (Lost why) = false
+is_silent ending.Done = false
+is_silent ending.NotDone = false
+is_silent ending.WriteFault = false
+is_silent (ending.Lost why) = false
 is_silent _ = true

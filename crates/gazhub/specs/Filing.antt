@@ -1,5 +1,5 @@
 -- What is done over a store's two files.
-use Rattle.std.specs.Prelude.{◌≡◌, ◌⊎◌, false, ℕ, List, Option, Some, None, Result, Ok, Err, IsTrue}
+use Rattle.std.specs.Prelude.{◌≡◌, ◌⊎◌, false, ℕ, List, Option, Some, None, Result, Err, IsTrue}
 use Rattle.std.specs.declared.marker.Brand.{Brand}
 use Rattle.sqlite.specs.Closing.{IsCopied}
 use Rattle.sqlite.specs.Files.{FailsToClose, Finds, IsClosed, IsOpened, file_state, over_files}
@@ -15,7 +15,7 @@ use Rattle.sqlite_wal.specs.Reads.{AreClean}
 use Rattle.gaz_register.specs.Registers.{RegisterValue}
 use Rattle.gaz_register.specs.Texts.{register_text}
 use Rattle.gaz_kept.specs.Opening.{Tells, has_any}
-use Rattle.gaz_kept.specs.OpeningFirst.{TellsFirst}
+use Rattle.gaz_kept.specs.OpeningFirst.{TellsFirst, Untouched}
 use Rattle.gaz_kept.specs.declared.refusal.StoreRefusal.{StoreRefusal}
 use Rattle.gaz_kept.specs.declared.refusal.StoreRefusal.TheVariants.{BadSchema, Fault}
 use Rattle.gaz_store.specs.Opened.{IsMade, IsRefused}
@@ -26,7 +26,7 @@ use Rattle.gaz_hub.specs.Step.{Command}
 use Rattle.gaz_stored.specs.Extending.{ExtendsOpened}
 use Rattle.gaz_stored.specs.Meetings.{Meeting}
 use Rattle.gaz_stored.specs.Migrating.{MigratesOpened, StopsMoving}
-use Rattle.gaz_stored.specs.Using.{UsesOpened, seen_as}
+use Rattle.gaz_stored.specs.Using.{LeavesStore, UsesOpened, seen_as}
 use Rattle.gaz_stored.specs.Ways.{Asks, Attends, Way}
 use Rattle.gaz_stored.specs.declared.attending.Unserved.{Unserved}
 use Rattle.gaz_stored.specs.declared.migrating.Migration.{Migration}
@@ -45,8 +45,7 @@ module _ {D : Type 0} (g : disk.Ghosts D) where
   -- the files that are given back hold its last commit, or closing failed
   abbrev pub CopiesOrFails : Held (FileStore D g) → Option (Files D) → Type 0
   CopiesOrFails conn (Some files) = AreClean g files.log files.db → IsCopied conn files
-  CopiesOrFails conn None =
-      (last : FileStore D g) × ((e : Error) × (IsClosed conn last
+  CopiesOrFails conn None = (last : FileStore D g) × ((e : Error) × (IsClosed conn last
       × (IsClean (view last) → FailsToClose conn last e)))
 
   -- a connection with nothing left to commit is closed, and these files are given back
@@ -98,9 +97,8 @@ module _ {D : Type 0} (g : disk.Ghosts D) where
     UsesStore register way = OverFiles (UsesOpened over_files register way)
 
     -- a call was answered
-    pub record AsksStore (register : RegisterValue) (call : Result Command Said) (answer : Said)
-        : Type 0 where
-      pub over : UsesStore register (Asks register call answer)
+    abbrev pub AsksStore : RegisterValue → Result Command Said → Said → Type 0
+    AsksStore register call answer = UsesStore register (Asks register call answer)
 
     -- so many connections were answered, or there was no port, or nobody was told of it; this came
     -- of them
@@ -109,32 +107,34 @@ module _ {D : Type 0} (g : disk.Ghosts D) where
         UsesStore register (Attends (seen_as (register_text register)) register most held met)
 
     -- its register was to grow from one to another
-    abbrev pub ExtendsStore : RegisterValue → RegisterValue → Result (Unit {0}) ExtendFault
-        → Type 0
+    abbrev pub ExtendsStore : RegisterValue → RegisterValue → Result (Unit {0}) ExtendFault → Type 0
     ExtendsStore register grown told =
         OverFiles (λ conn after. ExtendsOpened over_files register grown conn after told)
 
-    -- there is none of the register: that is told of the row of `meta`
+    -- there is none of the register: that is told of the row of `meta`, and nothing is written
     abbrev pub OpensNone : RegisterValue → StoreRefusal → Type 0
     OpensNone register refusal = Declines refusal
-        (λ conn back. Tells over_files conn back (Err refusal) (register_text register))
+        (λ conn back. Tells over_files conn back (Err refusal) (register_text register)
+        × Untouched over_files conn back)
 
     -- ---- it is migrated
 
-    -- and this is what a stop leaves
-    pub record Migrates (register : RegisterValue) (told : Migration)
+    -- it was migrated, or was of schema 2 already; and this is what a stop leaves of it
+    pub record MigratesOver (register : RegisterValue) (told : Migration)
         (conn after : Held (FileStore D g)) : Type 0 where
       pub migrates : MigratesOpened over_files register conn after told
       pub stops : StopsMoving over_files register conn after
 
     abbrev pub MigratesStore : RegisterValue → Migration → Type 0
-    MigratesStore register told = OverFiles (Migrates register told)
+    MigratesStore register told = OverFiles (MigratesOver register told)
 
-    -- there is none of either schema: that is told of the row of `meta`
+    -- there is none of either schema: that is told of the row of `meta`, and a store that is there
+    -- is left as it was
     pub record Refuses (register : RegisterValue) (refusal : StoreRefusal)
         (conn back : Held (FileStore D g)) : Type 0 where
       pub told : Tells over_files conn back (Err refusal) (register_text register)
       pub told_first : TellsFirst over_files conn back (Err refusal) (register_text register)
+      pub untouched : LeavesStore over_files conn back
       pub stops : StopsMoving over_files register conn back
 
     abbrev pub MigratesNone : RegisterValue → StoreRefusal → Type 0

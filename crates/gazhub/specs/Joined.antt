@@ -1,5 +1,6 @@
--- Calls over the same files, one after another, each under a register of its own.
-use Rattle.std.specs.Prelude.{◌≡◌, ⊤, List, [], ◌∷◌, map, Option, Some}
+-- Calls over the same files, one after another, each under a register of its own, of which each
+-- ends whole or is cut off by a stop.
+use Rattle.std.specs.Prelude.{◌≡◌, ⊤, ℕ, List, [], ◌∷◌, map, Option, Some, Result}
 use Rattle.sqlite.specs.Effect.{Database}
 use Rattle.sqlite.specs.Files.{file_state, over_files}
 use Rattle.sqlite.specs.Held.{Held}
@@ -11,62 +12,129 @@ use Rattle.sqlite_trees.specs.declared.store.Store.{Ghosts}
 use Rattle.gaz_register.specs.Registers.{IsRegister, RegisterValue}
 use Rattle.gaz_tables.specs.Creating.{HasRoom}
 use Rattle.gaz_store.specs.Seen.{IsUnharmed}
-use Rattle.gaz_hub.specs.Step.{new_hub}
-use Rattle.gaz_stored.specs.Calls.{Call, Came, GoesOnGrown, all_periods, left_by}
-use Rattle.gaz_stored.specs.Reopening.{OpensThen}
-use Rattle.gaz_stored.specs.Runs.{GoesOn, IsStoreOf, hub_in}
-use Rattle.gazhub.specs.Filing.{Closes, Connects, Makes, OverFiles}
+use Rattle.gaz_store.specs.declared.growing.ExtendFault.{ExtendFault}
+use Rattle.gaz_hub.specs.Step.{Command, new_hub}
+use Rattle.gaz_commands.specs.declared.said.Said.{Said}
+use Rattle.gaz_stored.specs.Calls.{AreOneRun, Call, CameTo, CutOff, Grew, IsFoundAfter, Moved}
+use Rattle.gaz_stored.specs.Calls.{Refused, Used, Whole}
+use Rattle.gaz_stored.specs.Meetings.{Meeting}
+use Rattle.gaz_stored.specs.Reopening.{HasStoreOf, OpensThen}
+use Rattle.gaz_stored.specs.Runs.{GoesOn, IsStoreOf}
+use Rattle.gaz_stored.specs.Using.{LeavesStore}
+use Rattle.gaz_stored.specs.declared.attending.Unserved.{Unserved}
+use Rattle.gaz_stored.specs.declared.migrating.Migration.{Migration}
+use Rattle.gazhub.specs.Filing.{AsksStore, Closes, Connects, ExtendsStore, Makes, MigratesStore}
+use Rattle.gazhub.specs.Filing.{OverFiles, ServesStore}
 
 module _ {D : Type 0} (g : disk.Ghosts D) where
   -- how a database in files is shown
   abbrev shown : Ghosts (FileStore D g)
   shown = over_files
 
-  -- a call by what it came to, over the files that it was given and those that it gave back
+  -- a call over files that it was given and those that it gave back, as its contract says: it asked
+  -- a hub, answered connections, let a register grow or migrated a store; or a store that was there
+  -- was left as it was
+  pub data CallOver (files : Files D) (left : Option (Files D)) : Type 0 where
+    Asked : (register : RegisterValue) (call : Result Command Said) (answer : Said)
+        → IsRegister register → AsksStore g files left register call answer → CallOver files left
+    Served : (register : RegisterValue) (most : ℕ) (held : Result ℕ Unserved) (met : List Meeting)
+        → IsRegister register → ServesStore g files left register most held met
+        → CallOver files left
+    Extended : (register grown : RegisterValue) (told : Result (Unit {0}) ExtendFault)
+        → IsRegister register → IsRegister grown
+        → ExtendsStore g files left register grown told → CallOver files left
+    Migrated : (register : RegisterValue) (told : Migration)
+        → MigratesStore g files left register told → CallOver files left
+    Declined : OverFiles g files left (LeavesStore shown) → CallOver files left
+
+  -- what was done over a connection is said otherwise
+  abbrev said_as : {files : Files D} {left : Option (Files D)}
+      {Does Is : Held (FileStore D g) → Held (FileStore D g) → Type 0}
+      → ((conn after : Held (FileStore D g)) → Does conn after → Is conn after)
+      → OverFiles g files left Does → OverFiles g files left Is
+  said_as so over = record {
+    conn = over.conn;
+    after = over.after;
+    connects = over.connects;
+    does = so over.conn over.after over.does;
+    closes = over.closes;
+  }
+
+  -- what a call came to
+  abbrev pub came_over : {files : Files D} {left : Option (Files D)} → CallOver files left
+      → OverFiles g files left (CameTo shown)
+  came_over (Asked register call answer is asks) =
+      said_as (λ _ _ it. Used register it.first it.commands it.responses is it.uses) asks
+  came_over (Served register most held met is serves) =
+      said_as (λ _ _ it. Used register it.first it.commands it.responses is it.uses) serves
+  came_over (Extended register grown told is are extends) =
+      said_as (λ _ _ it. Grew register grown told is are it) extends
+  came_over (Migrated register told migrates) =
+      said_as (λ _ _ it. Moved register told it.migrates) migrates
+  came_over (Declined leaves) = said_as (λ _ _ it. Refused it) leaves
+
+  -- a call, and what is found after it
   pub record FileCall : Type 0 where
     pub files : Files D
     pub left : Option (Files D)
-    pub over : OverFiles g files left (Came shown)
+    pub call : CallOver files left
+    pub found : Database
+    pub is_found : IsFoundAfter shown (came_over call).conn (came_over call).after found
 
   abbrev pub call_over : FileCall → Call shown
-  call_over call =
-      record { before = call.over.conn; after = call.over.after; came = call.over.does }
+  call_over it =
+      let over = came_over it.call in
+      record {
+        before = over.conn;
+        after = over.after;
+        came = over.does;
+        found = it.found;
+        is_found = it.is_found;
+      }
 
-  -- each was given the files that were given back before, on a disk that returned what was written,
-  -- and no failure shut its connection
-  abbrev pub AreInTurn : Option (Files D) → List FileCall → Type 0
-  AreInTurn left [] = ⊤
-  AreInTurn left (call ∷ later) = (left ≡ Some call.files)
-      × HasCleanDisk (file_state call.over.conn) × IsUnharmed (file_state call.over.after)
-      × AreInTurn call.left later
+  -- it was given these files, on a disk that returned what was written
+  abbrev pub IsGiven : Option (Files D) → FileCall → Type 0
+  IsGiven left next =
+      (left ≡ Some next.files) × HasCleanDisk (file_state (came_over next.call).conn)
+
+  -- the next call was given the files that this one gave back; or it shows what a stop left of it
+  abbrev pub IsPassedOn : {before after : Held (FileStore D g)} {found : Database}
+      → IsFoundAfter shown before after found → Option (Files D) → FileCall → Type 0
+  IsPassedOn (Whole fine same) left next = IsGiven left next
+  IsPassedOn {before} {after} {found} (CutOff itself may) left next =
+      (file_state (came_over next.call).conn).now ≡ found
+
+  -- and so on from this one
+  abbrev pub FollowOn : FileCall → List FileCall → Type 0
+  FollowOn call [] = ⊤
+  FollowOn call (next ∷ later) = IsPassedOn call.is_found call.left next × FollowOn next later
 
   -- from what a database stands for they are one run of one hub, over registers of which each
   -- extends the one before
-  abbrev pub AreOneRun : RegisterValue → Database → List FileCall → Type 0
-  AreOneRun register db calls = GoesOnGrown register (hub_in db)
-      (all_periods shown (map call_over calls)) (left_by shown db (map call_over calls))
+  abbrev pub AreOne : RegisterValue → Database → List FileCall → Type 0
+  AreOne register db calls = AreOneRun shown register db (map call_over calls)
 
   pub record CallsAreOne : Type 0 where
     -- over the store that the first of them finds
     pub opened : (register : RegisterValue) (first : FileCall) (later : List FileCall)
-        → IsRegister register → IsStoreOf register (file_state first.over.conn).now
-        → IsUnharmed (file_state first.over.after) → AreInTurn first.left later
-        → AreOneRun register (file_state first.over.conn).now (first ∷ later)
+        → IsRegister register → IsStoreOf register (file_state (came_over first.call).conn).now
+        → FollowOn first later
+        → AreOne register (file_state (came_over first.call).conn).now (first ∷ later)
     -- behind a connection that was closed over a store, as over one that was just made or migrated
     pub behind : (register : RegisterValue) (old : Held (FileStore D g)) (left : Option (Files D))
-        (calls : List FileCall)
+        (first : FileCall) (later : List FileCall)
         → IsRegister register → IsStoreOf register (file_state old).now
-        → IsUnharmed (file_state old) → Closes g old left → AreInTurn left calls
-        → AreOneRun register (file_state old).now calls
+        → IsUnharmed (file_state old) → Closes g old left → IsGiven left first
+        → FollowOn first later → AreOne register (file_state old).now (first ∷ later)
     -- where one is made and there was room, it is a store of its register that was asked nothing
     pub made : (register : RegisterValue) (files : Files D) (left : Option (Files D))
         (conn after : Held (FileStore D g))
         → Makes g files left register conn after → HasRoom (file_state conn).now.schema
         → IsUnharmed (file_state after) → GoesOn register new_hub [] [] (file_state after).now
 
-  -- whoever opens the files that were given back of a store, under its register, is told Ok or Fault
+  -- whoever opens the files that were given back of a store under its register is told Ok or Fault
   abbrev pub NextOpens : Type 0
   NextOpens = (register : RegisterValue) (old conn next : Held (FileStore D g)) (files : Files D)
-      → IsStoreOf register (file_state old).now → IsUnharmed (file_state old)
+      → HasStoreOf register (file_state old).now → IsUnharmed (file_state old)
       → Closes g old (Some files) → Connects g files conn → HasCleanDisk (file_state conn)
       → OpensThen over_files register conn next

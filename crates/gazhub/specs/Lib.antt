@@ -1,9 +1,8 @@
 pub mod Playing
 pub mod Endings
 pub mod Filing
-pub mod Migrating
 pub mod Joined
-pub mod Growing
+pub mod Changing
 pub mod Sites
 pub mod Working
 pub mod Serving

@@ -1,8 +1,8 @@
 -- A whole conversation of a hub over a store in memory that begins with nothing.
 use Rattle.std.specs.Prelude.{◌≡◌, ℕ, List, IsTrue, Result, Ok}
 use Rattle.std.specs.FinMap as map
-use Rattle.sqlite.specs.Files.{over_files}
-use Rattle.gaz_quiet.specs.Databases.{Quiet, no_tables, quiet_state}
+use Rattle.sqlite.specs.Files.{file_state, over_files}
+use Rattle.gaz_quiet.specs.Databases.{Quiet, no_tables}
 use Rattle.gaz_register.specs.Reading.{register_of}
 use Rattle.gaz_register.specs.Registers.{RegisterValue}
 use Rattle.gaz_register.specs.Texts.{register_text}
@@ -25,7 +25,7 @@ pub record Plays (text : List ℕ) (most : ℕ) (through : Transfer) (ended : Re
   pub described : register_of text ≡ Ok register
   pub before : Quiet
   pub after : Quiet
-  pub empty : (quiet_state before).now.schema ≡ no_tables
+  pub empty : (file_state before).now.schema ≡ no_tables
   pub uses : UsesMade over_files register (Converses (seen_as (register_text register)) register
       most through ended) before after
   -- step by step the hub went to one of which this is so: what was received is what came first, and
@@ -35,5 +35,5 @@ pub record Plays (text : List ℕ) (most : ℕ) (through : Transfer) (ended : Re
   -- and each answer is read off the standing board of the files that were received by then
   pub answers : AllAnswered (door_of register) map.empty uses.commands uses.responses hub.received
   -- so it is of what the tables stand for in the end, unless a want of memory shut the database
-  pub tables : IsTrue (quiet_state after).is_open → Abides (door_of register) uses.commands
-      uses.responses (hub_in (quiet_state after).now)
+  pub tables : IsTrue (file_state after).is_open → Abides (door_of register) uses.commands
+      uses.responses (hub_in (file_state after).now)

@@ -16,7 +16,7 @@ use Rattle.gaz_words.specs.declared.command.Call.{Call}
 use Rattle.gaz_words.specs.declared.command.Call.TheVariants.{Submit}
 use Rattle.gazhub.specs.declared.files.NoHub.{NoHub}
 use Rattle.gazhub.specs.declared.files.NoHub.TheVariants as none
-use Rattle.gazhub.specs.declared.purpose.Purpose.{Purpose}
+use Rattle.gazhub.specs.declared.site.Purpose.{Purpose}
 
 -- a deed: of the file at a path so many bytes at most were read; the store's files at a path were
 -- opened for a purpose; they were given back; a port was listened at; this came of a connection.
@@ -36,8 +36,8 @@ abbrev pub files_of : {D O : Type 0} → Option (Files D × O) → Option (Files
 files_of = option_map (λ found. found.0)
 
 -- the most that can be asked for of a file: the whole of it
-abbrev pub whole : ℕ
-whole = 2 ^ 64 - 1
+abbrev pub any_length : ℕ
+any_length = 2 ^ 64 - 1
 
 -- what is told of a store, or why there is none
 abbrev pub of_store : {A : Type 0} → Result A StoreRefusal → Result A NoHub
@@ -68,7 +68,7 @@ module _ {S D : Type 0} (done : S → Deed D → S → Type 0) where
   pub record FindsRegister (before after : S) (path : List ℕ) (found : Result RegisterValue NoHub)
       : Type 0 where
     pub bytes : Option (List ℕ)
-    pub does : done before (Read path whole bytes) after
+    pub does : done before (Read path any_length bytes) after
     pub told : IsRegisterOf bytes found
 
   -- the store's files at a path were opened, or couldn't be

@@ -15,11 +15,11 @@ use Rattle.gaz_words.specs.declared.command.Places.{Places}
 use Rattle.gazhub.specs.Commands.{IsExplained, IsTold}
 use Rattle.gazhub.specs.Serving.{AreLeft, ServesRest}
 use Rattle.gazhub.specs.Sites.{Deed, Does, FindsRegister, Listened, Met, Opened, Read, ReadsFor}
-use Rattle.gazhub.specs.Sites.{WithFiles, whole}
+use Rattle.gazhub.specs.Sites.{WithFiles, any_length}
 use Rattle.gazhub.specs.declared.ending.Ending.TheVariants.{Done, Failed, NoHub, Usage}
 use Rattle.gazhub.specs.declared.files.NoHub.{NoHub as WhyNoHub}
 use Rattle.gazhub.specs.declared.files.NoHub.TheVariants.{Store, Unreadable}
-use Rattle.gazhub.specs.declared.purpose.Purpose.{Purpose}
+use Rattle.gazhub.specs.declared.site.Purpose.{Purpose}
 
 module _ {D : Type 0} (g : disk.Ghosts D) where
   -- a site whose state is the list of what was done at it
@@ -28,11 +28,11 @@ module _ {D : Type 0} (g : disk.Ghosts D) where
 
   -- a file was read, and gave nothing
   abbrev pub read_in_vain : List ℕ → List (Deed D)
-  read_in_vain path = Read path whole None ∷ []
+  read_in_vain path = Read path any_length None ∷ []
 
   pub record WorkedSites : Type 0 where
-    pub read : (path : List ℕ) → Does noted [] (Read path whole None ∷ []) (read_in_vain path)
-    pub not_read : (path : List ℕ) → ¬ Does noted [] (Read path whole None ∷ []) []
+    pub read : (path : List ℕ) → Does noted [] (Read path any_length None ∷ []) (read_in_vain path)
+    pub not_read : (path : List ℕ) → ¬ Does noted [] (Read path any_length None ∷ []) []
     -- a file that can't be read gives no register
     pub unreadable : (path : List ℕ)
         → FindsRegister noted [] (read_in_vain path) path (Err Unreadable)

@@ -10,11 +10,10 @@ use Rattle.gaz_words.specs.declared.command.Call.{Call}
 use Rattle.gaz_words.specs.declared.command.Places.{Places}
 use Rattle.gazhub.specs.Filing.{AsksStore, ExtendsStore, MakesNone, MakesStore, MigratesNone}
 use Rattle.gazhub.specs.Filing.{MigratesStore, OpensNone}
-use Rattle.gazhub.specs.Growing.{said_of_growth}
-use Rattle.gazhub.specs.Migrating.{said_of_migration}
+use Rattle.gazhub.specs.Changing.{said_of_growth, said_of_migration}
 use Rattle.gazhub.specs.Sites.{Closed, Deed, ReadsFor, WithFiles, WithRegister, of_store}
 use Rattle.gazhub.specs.declared.files.NoHub.{NoHub}
-use Rattle.gazhub.specs.declared.purpose.Purpose.TheVariants as purpose
+use Rattle.gazhub.specs.declared.site.Purpose.TheVariants as purpose
 
 -- Below, g is what is seen of a disk, and done says of a site between which states a deed can be.
 module _ {S D : Type 0} (done : S → Deed D → S → Type 0) (g : disk.Ghosts D) where
@@ -64,15 +63,11 @@ module _ {S D : Type 0} (done : S → Deed D → S → Type 0) (g : disk.Ghosts 
   AskComesTo places call = WithRegister done places.register.now (λ register.
       WithFiles done places.store.now purpose.Use (AsksIn call register))
 
-  -- the register of the store at a path is to grow to the one that is found at another path
-  abbrev pub ExtendsTo : List ℕ → List ℕ → RegisterValue → S → S → Result Said NoHub
-      → Type 0
-  ExtendsTo store path register =
-      WithRegister done path (λ grown. WithFiles done store purpose.Use (GrowsIn register grown))
-
+  -- the register is to grow to the one that is found at a path
   abbrev pub ExtendComesTo : Places → List ℕ → S → S → Result Said NoHub → Type 0
-  ExtendComesTo places path =
-      WithRegister done places.register.now (ExtendsTo places.store.now path)
+  ExtendComesTo places path = WithRegister done places.register.now (λ register.
+      WithRegister done path (λ grown.
+      WithFiles done places.store.now purpose.Use (GrowsIn register grown)))
 
   abbrev pub MigrateComesTo : Places → S → S → Result Said NoHub → Type 0
   MigrateComesTo places = WithRegister done places.register.now (λ register.

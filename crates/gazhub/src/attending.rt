@@ -7,8 +7,7 @@ ghost use Rattle.gazhub.specs.Serving.{said_of_serving};
 
 use crate::ending::Ending;
 use crate::files::{NoHub, open_files, read_register};
-use crate::purpose::Purpose;
-use crate::site::Site;
+use crate::site::{Purpose, Site};
 use crate::stores::serve_store;
 use gaz_ledger::Seed;
 use gaz_register::Register;
@@ -47,8 +46,7 @@ fn serve_in<S: Site, W: Write>(
     requires log { IsTrue (S.Medium.Disk.is_usable files.log) }
     requires db { IsTrue (S.Medium.Disk.is_usable files.db) }
     ensures served { ServesIn S.done S.Medium.Disk serving.port serving.connections
-        (W.contents w.old) (W.contents w.new) register files
-        site.old site.new result }
+        (W.contents w.old) (W.contents w.new) register files site.old site.new result }
     ensures silent { IfErr result (λ _. Keeps (W.contents w.old) (W.contents w.new)) }
     ensures some { IfOk result (λ told. IfSome told (AreSome serving.connections)) }
 {
@@ -68,7 +66,7 @@ fn serve_in<S: Site, W: Write>(
     said_of_serving(held)
 }
 
-// So over the store that is there.
+// Reads the register, opens the store that is there, and answers connections over it.
 fn serve_once<S: Site, W: Write>(
     site: &mut S,
     alloc: Global,

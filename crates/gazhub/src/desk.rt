@@ -3,8 +3,7 @@ ghost use Rattle.std.specs.Prelude.{bytes_eq, codes, if◌then◌else◌, option
 ghost use Rattle.gazhub.specs.Desks.{IsDone, IsMet};
 ghost use Rattle.gazhub.specs.Sites.{Closed};
 
-use crate::purpose::Purpose;
-use crate::site::Site;
+use crate::site::{Purpose, Site};
 use gaz_exchange::InMemory;
 use gaz_quiet::QuietDisk;
 use gaz_stored::Peers;
@@ -17,7 +16,7 @@ use std::alloc::Global;
 pub struct Desk {
     alloc: Global,
     register: &'static str,
-    /// At every other path than the register's.
+    /// The change file, which stands at every other path than the register's.
     pub change: &'static str,
     files: Option<Files<QuietDisk>>,
     /// What a peer says that is to come.

@@ -1,10 +1,8 @@
 //! The files that commands name.
 ghost use Rattle.std.specs.Prelude.{◌≡◌, IfOk, IsTrue};
-ghost use Rattle.gazhub.specs.Sites.{FindsFiles, FindsRegister, ReadsFor};
-ghost use Rattle.gazhub.specs.Sites.{bytes_of, of_store};
+ghost use Rattle.gazhub.specs.Sites.{FindsFiles, FindsRegister, ReadsFor, bytes_of, of_store};
 
-use crate::purpose::Purpose;
-use crate::site::Site;
+use crate::site::{Purpose, Site};
 use gaz_ids::MOST_BYTES;
 use gaz_register::{RegFault, Register};
 use gaz_store::StoreRefusal;

@@ -1,18 +1,17 @@
 //! A store's register grows.
 ghost use Rattle.std.specs.Prelude.{◌≡◌, IfErr, IfOk, IsTrue};
 ghost use Rattle.gazhub.specs.Filing.{ExtendsStore, OpensNone};
-ghost use Rattle.gazhub.specs.Growing.{not_extended, said_of_growth};
-ghost use Rattle.gazhub.specs.Working.{ExtendComesTo, ExtendsTo, GrowsIn};
+ghost use Rattle.gazhub.specs.Changing.{not_extended, said_of_growth};
+ghost use Rattle.gazhub.specs.Working.{ExtendComesTo};
 
 use crate::files::{NoHub, open_files, read_register};
-use crate::purpose::Purpose;
-use crate::site::Site;
+use crate::site::{Purpose, Site};
 use crate::stores::{close, connect};
 use gaz_commands::{PrintedLine, Said};
 use gaz_ledger::Seed;
 use gaz_register::{GrowFault, Register};
 use gaz_store::{ExtendFault, StoreRefusal};
-use gaz_stored::{HandedBack, extend_opened};
+use gaz_stored::extend_opened;
 use gaz_words::Places;
 use sqlite::{Files, Options};
 use sqlite_disk::Disk;
@@ -40,7 +39,7 @@ pub fn extend_store<D: Disk + Drop>(
     let Some(conn) = connect(alloc, files, options) else {
         return (None, Err(StoreRefusal::Fault));
     };
-    let HandedBack { conn, told, .. } = extend_opened(alloc, seed, conn, register, grown);
+    let (conn, told) = extend_opened(alloc, seed, conn, register, grown);
     let left = close(conn);
     (left, told)
 }
@@ -71,43 +70,6 @@ fn said_of_growth(told: Result<Result<(), ExtendFault>, StoreRefusal>) -> Result
     }
 }
 
-// Lets the register of the store in these files grow.
-fn extend_in<S: Site>(
-    site: &mut S,
-    alloc: Global,
-    seed: Seed,
-    register: Register,
-    grown: Register,
-    files: Files<S::Medium>,
-    options: Options,
-) -> Result<Said, NoHub>
-    requires log { IsTrue (S.Medium.Disk.is_usable files.log) }
-    requires db { IsTrue (S.Medium.Disk.is_usable files.db) }
-    ensures { GrowsIn S.done S.Medium.Disk register grown files
-        site.old site.new result }
-{
-    let (left, told) = extend_store(alloc, files, options, seed, register, grown);
-    site.close(left);
-    said_of_growth(told)
-}
-
-// Lets the register of the store at a path grow to the one whose file stands at another.
-fn extend_to<S: Site>(
-    site: &mut S,
-    alloc: Global,
-    seed: Seed,
-    register: Register,
-    store: &str,
-    grown: &str,
-) -> Result<Said, NoHub>
-    ensures { ExtendsTo S.done S.Medium.Disk store.now grown.now register
-        site.old site.new result }
-{
-    let grown = read_register(site, alloc, grown)?;
-    let (files, options) = open_files(site, store, Purpose::Use)?;
-    extend_in(site, alloc, seed, register, grown, files, options)
-}
-
 /// Lets the register of the store that is there grow to the one whose file stands at a path. The
 /// register is read first, then the grown one, then the store. No store is made, though an empty
 /// log may be.
@@ -118,9 +80,12 @@ pub fn extend<S: Site>(
     places: Places<'_>,
     grown: &str,
 ) -> Result<Said, NoHub>
-    ensures { ExtendComesTo S.done S.Medium.Disk places.entry grown.now
-        site.old site.new result }
+    ensures { ExtendComesTo S.done S.Medium.Disk places.entry grown.now site.old site.new result }
 {
     let register = read_register(site, alloc, places.register)?;
-    extend_to(site, alloc, seed, register, places.store, grown)
+    let grown = read_register(site, alloc, grown)?;
+    let (files, options) = open_files(site, places.store, Purpose::Use)?;
+    let (left, told) = extend_store(alloc, files, options, seed, register, grown);
+    site.close(left);
+    said_of_growth(told)
 }

@@ -2,8 +2,7 @@
 ghost use Rattle.std.specs.Prelude.{⊤};
 
 use crate::port::{accepted, part};
-use crate::purpose::Purpose;
-use crate::site::Site;
+use crate::site::{Purpose, Site};
 use gaz_stored::Peers;
 use sqlite::{Files, Options, Unknown};
 use sqlite_std_file::{FileFrom, open};
@@ -31,6 +30,13 @@ fn pages_for(bytes: u64) -> usize {
     pages.saturating_add(pages / 2).clamp(FEWEST, MOST) as usize
 }
 
+/// A number that nobody foresees, for a seed or for the salts of a store's log.
+pub fn random(rt: &impl RandomSource) -> io::Result<u64> {
+    let mut bytes = [0; 8];
+    rt.fill_bytes(&mut bytes)?;
+    Ok(u64::from_le_bytes(bytes))
+}
+
 /// The system on which the program runs.
 #[derive(Drop)]
 pub struct Host<'a> {
@@ -51,16 +57,9 @@ impl<'a> Host<'a> {
         Ok(bytes)
     }
 
-    // A number that nobody foresees, for the salts of a store's log.
-    fn salt(&self) -> io::Result<u64> {
-        let mut bytes = [0; 8];
-        self.rt.fill_bytes(&mut bytes)?;
-        Ok(u64::from_le_bytes(bytes))
-    }
-
     // How a store's files are used, where the database has so many bytes.
     fn options_for(&self, bytes: u64) -> Option<Options> {
-        let salt = self.salt().ok()?;
+        let salt = random(self.rt).ok()?;
         let mut options = Options::new(salt);
         options.cache_pages = pages_for(bytes);
         Some(options)

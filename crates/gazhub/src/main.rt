@@ -15,7 +15,6 @@ mod migrating;
 mod obeying;
 mod port;
 mod program;
-mod purpose;
 mod sample;
 mod site;
 mod stores;
@@ -23,28 +22,16 @@ mod stores;
 mod trials;
 
 use gaz_ledger::Seed;
-use host::Host;
+use host::{Host, random};
 use obeying::command;
 use std::alloc::Global;
 use std::io::{BufWriter, Printer};
 use std::process::ExitCode;
-use std::random::RandomSource;
 use std::{env, io};
 
 // The words behind the program's name.
 fn words(rt: &HostRuntime) -> io::Result<Vec<String>> {
-    let mut words = Vec::new(rt.alloc());
-    for word in env::args(rt)?.skip(1) {
-        words.push(word)?;
-    }
-    Ok(words)
-}
-
-// A seed that nobody foresees.
-fn random_seed(rt: &impl RandomSource) -> io::Result<Seed> {
-    let mut bytes = [0; 8];
-    rt.fill_bytes(&mut bytes)?;
-    Ok(Seed::of(u64::from_le_bytes(bytes)))
+    Ok(env::args(rt)?.skip(1).collect(rt.alloc())?)
 }
 
 // A writer that keeps what it is given until it is flushed, or where there is no memory for that,
@@ -62,7 +49,7 @@ fn buffered<P: Print>(alloc: Global, rt: &P) -> BufWriter<Printer<'_, P>> {
 fn main(rt: HostRuntime) -> ExitCode {
     let words = words(&rt).ok();
     let words = words.as_ref().map(|words| words.as_slice());
-    let seed = random_seed(&rt).ok();
+    let seed = random(&rt).ok().map(Seed::of);
     let mut w = buffered(rt.alloc(), &rt);
     let status = command(
         &mut Host::of(&rt),

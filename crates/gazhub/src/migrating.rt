@@ -1,18 +1,17 @@
 //! A store of schema 1 becomes one of schema 2.
 ghost use Rattle.std.specs.Prelude.{◌≡◌, IfErr, IfOk, IsTrue};
 ghost use Rattle.gazhub.specs.Filing.{MigratesNone, MigratesStore};
-ghost use Rattle.gazhub.specs.Migrating.{said_of_migration};
-ghost use Rattle.gazhub.specs.Working.{MigratesIn, MigrateComesTo};
+ghost use Rattle.gazhub.specs.Changing.{said_of_migration};
+ghost use Rattle.gazhub.specs.Working.{MigrateComesTo};
 
 use crate::files::{NoHub, open_files, read_register};
-use crate::purpose::Purpose;
-use crate::site::Site;
+use crate::site::{Purpose, Site};
 use crate::stores::{close, connect};
 use gaz_commands::{PrintedLine, Said};
 use gaz_ledger::Seed;
 use gaz_register::Register;
 use gaz_store::StoreRefusal;
-use gaz_stored::{HandedBack, Migration, migrate_opened};
+use gaz_stored::{Migration, migrate_opened};
 use gaz_words::Places;
 use sqlite::{Files, Options};
 use sqlite_disk::Disk;
@@ -36,7 +35,7 @@ pub fn migrate_store<D: Disk + Drop>(
     let Some(conn) = connect(alloc, files, options) else {
         return (None, Err(StoreRefusal::Fault));
     };
-    let HandedBack { conn, told, .. } = migrate_opened(alloc, seed, conn, register);
+    let (conn, told) = migrate_opened(alloc, seed, conn, register);
     let left = close(conn);
     (left, told)
 }
@@ -52,25 +51,6 @@ fn said_of_migration(told: Result<Migration, StoreRefusal>) -> Result<Said, NoHu
     }
 }
 
-// Migrates the store in these files.
-fn migrate_in<S: Site>(
-    site: &mut S,
-    alloc: Global,
-    seed: Seed,
-    register: &Register,
-    files: Files<S::Medium>,
-    options: Options,
-) -> Result<Said, NoHub>
-    requires log { IsTrue (S.Medium.Disk.is_usable files.log) }
-    requires db { IsTrue (S.Medium.Disk.is_usable files.db) }
-    ensures { MigratesIn S.done S.Medium.Disk register.now files
-        site.old site.new result }
-{
-    let (left, told) = migrate_store(alloc, files, options, seed, register);
-    site.close(left);
-    said_of_migration(told)
-}
-
 /// Migrates the store that is there. The register is read first. No store is made, though an empty
 /// log may be.
 pub fn migrate<S: Site>(
@@ -79,10 +59,11 @@ pub fn migrate<S: Site>(
     seed: Seed,
     places: Places<'_>,
 ) -> Result<Said, NoHub>
-    ensures { MigrateComesTo S.done S.Medium.Disk places.entry
-        site.old site.new result }
+    ensures { MigrateComesTo S.done S.Medium.Disk places.entry site.old site.new result }
 {
     let register = read_register(site, alloc, places.register)?;
     let (files, options) = open_files(site, places.store, Purpose::Migrate)?;
-    migrate_in(site, alloc, seed, &register, files, options)
+    let (left, told) = migrate_store(alloc, files, options, seed, &register);
+    site.close(left);
+    said_of_migration(told)
 }

@@ -69,8 +69,7 @@ fn explain<W: Write>(w: &mut W, error: Error) -> Result<Ending, Error>
 // Prints what came of a command over a store.
 fn finish<W: Write>(w: &mut W, said: Result<Said, NoHub>) -> Ending
     ensures silent { is_silent result ≡ true → Keeps (W.contents w.old) (W.contents w.new) }
-    ensures finished { IsFinished (W.contents w.old) (W.contents w.new)
-        said result }
+    ensures finished { IsFinished (W.contents w.old) (W.contents w.new) said result }
 {
     match said {
         Ok(said) => tell(w, &said),
@@ -172,8 +171,7 @@ pub fn command<S: Site, R: Read, W: Write, E: Write>(
 ) -> u8
     ensures { Commands S.done S.Medium.Disk SAMPLE.now MOST
         (option_map (λ all. map string_bytes all.now) words.entry) (is_some seed)
-        site.old site.new
-        (transfer R.remaining W.contents r.old r.new w.old w.new)
+        site.old site.new (transfer R.remaining W.contents r.old r.new w.old w.new)
         (E.contents errors.old) (E.contents errors.new) result }
 {
     match begin(site, alloc, words, seed, r, w) {

@@ -1,3 +1,5 @@
+//! The sample register.
+
 /// The register of `play`, in TOML.
 pub const SAMPLE: &str = r#"[[custodian]]
 code = 1001

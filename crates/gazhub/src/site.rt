@@ -3,10 +3,20 @@ ghost use Rattle.std.specs.Prelude.{IfSome, IsTrue};
 ghost use Rattle.gaz_stored.specs.Meetings.{Meeting};
 ghost use Rattle.gazhub.specs.Sites.{Closed, Deed, Listened, Met, Opened, Read, bytes_of, files_of};
 
-use crate::purpose::Purpose;
 use gaz_stored::Peers;
 use sqlite::{Files, Options};
 use sqlite_disk::Disk;
+
+/// What a store's files are opened for.
+#[derive(Clone, Copy)]
+pub enum Purpose {
+    /// A store is made, where none need be.
+    Make,
+    /// The store that is there is used.
+    Use,
+    /// The store that is there is migrated.
+    Migrate,
+}
 
 /// Where the files are that commands name, and where peers come. What each call finds and leaves
 /// there is told, where it is known; of a system's files it isn't, since others change them too.

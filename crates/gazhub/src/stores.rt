@@ -105,7 +105,7 @@ pub fn ask_store<D: Disk + Drop>(
     let Some(conn) = connect(alloc, files, options) else {
         return (None, Err(StoreRefusal::Fault));
     };
-    let HandedBack { conn, told, .. } = ask_opened(alloc, seed, conn, register, call, file);
+    let (conn, told) = ask_opened(alloc, seed, conn, register, call, file);
     let left = close(conn);
     (left, told)
 }

@@ -1,6 +1,5 @@
 -- What is left comes to the same view.
-use Rattle.std.proofs.Common.{◌≡◌, ◌≤◌}
-use Rattle.std.specs.Prelude.{None}
+use Rattle.std.proofs.Common.{◌≡◌, ◌≤◌, None}
 use Rattle.std.specs.Vec.Iter.{into_iter_items}
 use Rattle.gaz_keeper.specs.Keeper.{IsSound, LeavesAtMost, after_abandon, with_working}
 use Rattle.gaz_mirror.specs.Gathering.{made}

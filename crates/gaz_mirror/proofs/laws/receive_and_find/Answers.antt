@@ -1,5 +1,4 @@
-use Rattle.std.proofs.Common.{◌≡◌, ℕ, Some, ap, ◌∙◌, cond, IfOk, Result, Ok, Err}
-use Rattle.std.specs.Prelude.{List}
+use Rattle.std.proofs.Common.{◌≡◌, ◌∙◌, ℕ, IfOk, List, Option, Some, ap, cond, option_map, subst}
 use Rattle.std.specs.Cmp.{eq_by_cmp_equiv}
 use Rattle.std.specs.FinMap as map
 use Rattle.gaz_keeper.proofs.Pairs.{pairs_total}
@@ -12,14 +11,9 @@ there_now old new code volume bytes is =
     ap (λ (k : Content). map.get k.files (code, volume)) is ∙ map.get-insert pairs_total old.files (code, volume) bytes (code, volume)
     ∙ ap (λ b. cond b (Some bytes) (map.get old.files (code, volume))) ((eq_by_cmp_equiv pairs_total).refl (code, volume))
 
--- an answer that is one value is that of which it is another name
-renamed : {A T E : Type 0} (r : Result T E) (f : T → A) (x y : A) → x ≡ y → IfOk r (λ t. f t ≡ x) → IfOk r (λ t. f t ≡ y)
-renamed (Ok t) f x y e h = h ∙ e
-renamed (Err e') f x y e h = tt
-
 pub returns : goal.returns
 returns g c stood fresh fine =
     let entered = c.in_ok-receive.ensures.enters in
     let unharmed = c.received.ensures.keeps.harm fine in
-    renamed c.received.result _ _ _ (there_now _ _ c.args.code c.args.volume c.args.bytes.now (entered.done stood fresh unharmed))
+    subst (λ (bytes : Option (List ℕ)). IfOk c.received.result (λ found. option_map (λ b. b.items) found ≡ bytes)) (there_now _ _ c.args.code c.args.volume c.args.bytes.now (entered.done stood fresh unharmed))
     (c.received.ensures.right (entered.stands stood fresh unharmed) fine)

@@ -17,7 +17,8 @@ returns-clause-converses g c =
     record {
       commands = commands;
       responses = responses;
-      went = record { begun = begun; left = left; of_register = made.register; conversation = told; back = back; asked = refl; told = refl };
-      harm = λ fine. made.reads.keeps.harm (told.runs.harm (subst (λ k. (g.K.Shelf.seen k).unharmed) (sym back) fine));
-      runs = over_keeper g.K.Shelf c.args.register c.args.keeper last begun left commands responses made.register made.remembers made.reads made.idle made.stands back told.runs;
+      went = record { begun = begun; left = left; begins = made.begins; conversation = told; back = back; asked = refl; told = refl };
+      harm = λ fine. made.begins.reads.keeps.harm (told.runs.harm (subst (λ k. (g.K.Shelf.seen k).unharmed) (sym back) fine));
+      trust = λ t. made.begins.reads.trust (told.runs.trust (subst (λ k. (g.K.Shelf.seen k).trusted) (sym back) t));
+      runs = over_keeper g.K.Shelf c.args.register c.args.keeper last begun left commands responses made.begins made.idle made.stands back told.runs;
     }

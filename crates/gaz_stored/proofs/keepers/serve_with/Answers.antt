@@ -28,7 +28,8 @@ returns-clause-serves g c =
     record {
       commands = Pose Settle ∷ serves.commands;
       responses = told ∷ serves.responses;
-      went = record { settled = or_not_received settle.result; begun = mid; left = left; of_register = settle.ensures.register ∙ made.register; serves = serves; back = back; asked = refl; told = refl };
-      harm = λ fine. made.reads.keeps.harm (runs.harm (subst (λ k. (g.K.Shelf.seen k).unharmed) (sym back) fine));
-      runs = over_keeper g.K.Shelf c.args.register c.args.keeper last begun left (Pose Settle ∷ serves.commands) (told ∷ serves.responses) made.register made.remembers made.reads made.idle made.stands back runs;
+      went = record { settled = or_not_received settle.result; begun = begun; mid = mid; left = left; begins = made.begins; settles = settle.ensures.steps; of_register = settle.ensures.register ∙ made.begins.of_register; serves = serves; back = back; asked = refl; told = refl };
+      harm = λ fine. made.begins.reads.keeps.harm (runs.harm (subst (λ k. (g.K.Shelf.seen k).unharmed) (sym back) fine));
+      trust = λ t. made.begins.reads.trust (runs.trust (subst (λ k. (g.K.Shelf.seen k).trusted) (sym back) t));
+      runs = over_keeper g.K.Shelf c.args.register c.args.keeper last begun left (Pose Settle ∷ serves.commands) (told ∷ serves.responses) made.begins made.idle made.stands back runs;
     }) c.serve_on-served.ensures.serves

@@ -1,5 +1,52 @@
-use Rattle.gaz_stored.proofs.CallExamples.{worked}
+-- Worked examples on calls one after another.
+use Rattle.std.proofs.Common.{◌≡◌, ◌∙◌, Bool, true, false, List, [], ◌∷◌, ◌++◌, refl, sym, true≢false}
+use Rattle.gaz_hub.specs.Growth.{Period}
+use Rattle.gaz_hub.specs.Step.{Command}
+use Rattle.gaz_stored.specs.CallExamples.{WorkedCuts}
+use Rattle.gaz_stored.specs.Examples.{sends}
+use Rattle.gaz_stored.specs.Stopping.{CutReceiving, CutSettling, IsCutTo, cut_receiving}
 use Rattle.gaz_stored.proofs.laws.worked_calls.Goals as goal
 
+-- no custodian may go
+gone : ¬ ◌≡◌ {A = Bool} false true
+gone e = absurd (true≢false (sym e))
+
+-- nothing is the front of nothing
+none_earlier : (earlier later : List Command) → [] ≡ earlier ++ later → [] ≡ earlier
+none_earlier [] later e = refl
+none_earlier (x ∷ xs) later e = cc
+
+none_next : (command : Command) (earlier later : List Command) → ¬ ([] ≡ earlier ++ command ∷ later)
+none_next command [] later e = absurd (cc)
+none_next command (x ∷ xs) later e = absurd (cc)
+
+unsent : ¬ IsCutTo [] [] (sends ∷ []) (cut_receiving ∷ [])
+unsent (CutSettling [] later told more e f asked said) = absurd (cc)
+unsent (CutSettling (x ∷ xs) later told more e f asked said) = absurd (cc)
+unsent (CutReceiving earlier later told more c volume bytes e f asked said) = none_next _ earlier later e
+
+cuts_hold : WorkedCuts
+cuts_hold = record {
+  received = λ told. CutReceiving [] [] [] (told ∷ []) 1001 1 _ refl refl refl refl;
+  answered = λ told. CutSettling (sends ∷ []) [] (told ∷ []) [] refl refl refl refl;
+  nothing = λ told. CutSettling [] (sends ∷ []) [] (told ∷ []) refl refl refl refl;
+  unsent = unsent;
+}
+
 pub returns : goal.returns
-returns g c conn refused = worked g.S.Store conn refused
+returns g c conn leaves fine = record {
+  nothing_asked = ([], [], refl, ([], [], refl, refl, refl), refl);
+  asked = λ p are. none_asked p are.0 are.1 are.2 are.3 are.4;
+  used = λ register first commands responses is uses. refl;
+  grows = λ register grown is are extends. refl;
+  none = tt;
+  twice = (refl, (refl, tt));
+  elsewhere = λ other follow. other follow.0;
+  left = refl;
+  left_by_none = refl;
+  shrinks = λ run. gone (run.1.custodians 1004 refl);
+  cuts = cuts_hold;
+}
+  where
+    none_asked : (p : Period) (first rest : List Period) → first ≡ [] → rest ≡ [] → ¬ (p ∷ [] ≡ first ++ rest)
+    none_asked p first rest e f is = let no : p ∷ [] ≡ [] = is ∙ rw (e, f) refl in absurd (cc)

@@ -1,20 +1,31 @@
-use Rattle.std.proofs.Common.{IfErr, subst, sym}
-use Rattle.std.specs.Io.KnownBytes.{Keeps}
-use Rattle.gazhub.proofs.Serving.{are_some, serves_in, silent_of}
+use Rattle.gaz_stored.specs.declared.connections.TheConstants.{MOST_REQUESTS}
+use Rattle.gazhub.specs.Filing.{ServesStore}
+use Rattle.gazhub.proofs.Serving.{silent_of, some_of}
+use Rattle.gazhub.proofs.Sites.{met_in}
 use Rattle.gazhub.proofs.attending.serve_in.Goals as goal
 
 pub returns-clause-served : goal.returns-clause-served
 returns-clause-served g c =
     let listened = c.listen-port in
     let served = c.serve_store-left in
-    serves_in g.S.Site.done g.S.Medium.Disk g.S.Peers.meets g.met.S.Site.tells g.S.Reader.Source.failed g.S.Writer.Sink.failed c.args.serving.port c.args.serving.connections c.args.register c.args.files served.result.0 c.args.site.now listened.new.self served.new.peers c.close.new.self
-    listened.result (g.W.Write.contents c.args.w.now) (g.W.Write.contents served.new.w) served.result.1 c.said_of_serving.result listened.ensures served.ensures.announced served.ensures.served served.ensures.nobody served.ensures.many served.ensures.none c.close.ensures
-    c.said_of_serving.ensures
+    let came = met_in g.S.Site.done g.S.Peers.meets g.met.S.Site.tells g.S.Reader.Source.failed g.S.Writer.Sink.failed (ServesStore g.S.Medium.Disk c.args.files served.result.0 c.args.register MOST_REQUESTS) served.result.0 listened.new.self served.new.peers c.close.new.self
+    served.result.1 served.ensures.served served.ensures.nobody c.close.ensures in
+    record {
+      left = served.result.0;
+      held = served.result.1;
+      bound = listened.result;
+      met = came.0;
+      does = (listened.new.self, listened.ensures, came.1);
+      announced = served.ensures.announced;
+      serves = came.2;
+      some = served.ensures.many;
+      none = served.ensures.none;
+      nobody = came.3;
+      told_is = c.said_of_serving.ensures;
+    }
 
 pub returns-clause-silent : goal.returns-clause-silent
-returns-clause-silent g c =
-    let served = c.serve_store-left in
-    subst (λ told. IfErr told (λ _. Keeps (g.W.Write.contents c.args.w.now) (g.W.Write.contents served.new.w))) (sym c.said_of_serving.ensures) (silent_of _ _ _ served.result.1 served.ensures.announced)
+returns-clause-silent g c = rw c.said_of_serving.ensures (silent_of _ _ _ c.serve_store-left.result.1 c.serve_store-left.ensures.announced)
 
 pub returns-clause-some : goal.returns-clause-some
-returns-clause-some g c = are_some _ _ _ c.said_of_serving.ensures c.serve_store-left.ensures.many
+returns-clause-some g c = rw c.said_of_serving.ensures (some_of _ c.serve_store-left.result.1 c.serve_store-left.ensures.many)

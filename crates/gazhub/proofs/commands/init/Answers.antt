@@ -10,4 +10,6 @@ returns-in_err-files g c =
     HasRegister c.in_ok-register.register _ c.in_ok-register.ensures (without_files g.S.Site.done _ _ _ _ _ c.from_residual-in_err-files.result _ c.in_err-files.ensures.found c.from_residual-in_err-files.ensures.1)
 
 pub returns : goal.returns
-returns g c = HasRegister c.in_ok-register.register _ c.in_ok-register.ensures (HasFiles c.in_ok-files.files _ c.in_ok-files.ensures.found c.init_in.ensures)
+returns g c =
+    HasRegister c.in_ok-register.register _ c.in_ok-register.ensures (HasFiles c.in_ok-files.files _ c.in_ok-files.ensures.found
+    (record { left = c.make_store-left.result.0; held = c.make_store-left.result.1; does = c.make_store-left.ensures.made; lacks = c.make_store-left.ensures.none; told_is = c.of_store.ensures; closed = c.close.ensures }))

@@ -1,5 +1,9 @@
-use Rattle.gazhub.proofs.WorkedJoined.{worked_joined}
+use Rattle.std.proofs.Common.{refl}
 use Rattle.gazhub.proofs.laws.worked_joined.Goals as goal
 
 pub returns : goal.returns
-returns g c = worked_joined g.D.Disk
+returns g c = record {
+  none = λ call. tt;
+  twice = λ files over fine clean. ((refl, clean), tt);
+  lost = λ call given. let e = given.0 in absurd (cc);
+}

@@ -1,11 +1,16 @@
 use Rattle.std.proofs.Common.{◌∙◌, ap, not}
-use Rattle.gazhub.proofs.Closing.{closes, closes_not}
 use Rattle.gazhub.proofs.stores.close.Goals as goal
 
 pub returns-in-Ok : goal.returns-in-Ok
-returns-in-Ok g c = closes _ c.args.conn c.schema-schema.ensures.live (c.is_autocommit-is_settled.ensures.settled (c.is_autocommit-is_settled.ensures.value ∙ ap not c.requires)) c.in-Ok.files c.in-Ok.ensures.copied
+returns-in-Ok g c = record {
+  live = c.schema-schema.ensures.live;
+  settled = c.is_autocommit-is_settled.ensures.settled (c.is_autocommit-is_settled.ensures.value ∙ ap not c.requires);
+  files = c.in-Ok.ensures.copied;
+}
 
 pub returns-in-Err : goal.returns-in-Err
-returns-in-Err g c =
-    closes_not _ c.args.conn c.schema-schema.ensures.live (c.is_autocommit-is_settled.ensures.settled (c.is_autocommit-is_settled.ensures.value ∙ ap not c.requires)) c.in-Err.store c.in-Err.field-0-0
-    c.in-Err.ensures.err.0 c.in-Err.ensures.err.1
+returns-in-Err g c = record {
+  live = c.schema-schema.ensures.live;
+  settled = c.is_autocommit-is_settled.ensures.settled (c.is_autocommit-is_settled.ensures.value ∙ ap not c.requires);
+  files = (c.in-Err.store, (c.in-Err.field-0-0, (c.in-Err.ensures.err.0, c.in-Err.ensures.err.1)));
+}

@@ -1,10 +1,11 @@
-use Rattle.gazhub.proofs.Filing.{many_served, opens_none, serves_peers}
+use Rattle.std.proofs.lemmas.Result.{IfOk-weaker}
+use Rattle.gaz_stored.proofs.Meetings.{with_same}
+use Rattle.gazhub.proofs.Filing.{opens_none, over}
 use Rattle.gazhub.proofs.stores.serve_store.Goals as goal
 
 pub returns-clause-served : goal.returns-clause-served
 returns-clause-served g c =
-    let served = c.serve_opened-conn in
-    serves_peers _ c.args.files c.close-left.result c.in-Some.conn served.result.conn c.in-Some.ensures c.close-left.ensures c.args.register _ _ _ _ _ 1000 served.result.told served.ensures.attends
+    IfOk-weaker c.serve_opened-conn.result.told _ _ (λ how. with_same _ _ _ _ _ _ _ (λ met uses. over _ c.args.files c.close-left.result c.in-Some.conn c.serve_opened-conn.result.conn c.in-Some.ensures c.close-left.ensures _ uses)) c.serve_opened-conn.ensures.attends
 
 pub returns-clause-none : goal.returns-clause-none
 returns-clause-none g c =
@@ -12,4 +13,6 @@ returns-clause-none g c =
     opens_none _ c.args.files c.close-left.result c.in-Some.conn served.result.conn c.in-Some.ensures c.close-left.ensures c.args.register served.result.told served.ensures.lacks
 
 pub returns-clause-many : goal.returns-clause-many
-returns-clause-many g c = many_served c.args.connections c.serve_opened-conn.result.at_hand c.serve_opened-conn.result.told c.serve_opened-conn.ensures.many
+returns-clause-many g c =
+    let served = c.serve_opened-conn in
+    IfOk-weaker served.result.told _ _ (λ held. IfOk-weaker held _ _ (λ n ends. (ends.most, ends.some))) served.ensures.many

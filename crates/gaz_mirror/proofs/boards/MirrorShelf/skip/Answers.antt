@@ -1,10 +1,7 @@
 -- Nothing is gathered.
-use Rattle.std.proofs.Common.{◌∙◌, ap, refl, subst, sym}
-use Rattle.std.specs.Prelude.{None, Some}
-use Rattle.std.specs.Option.{ForSome}
+use Rattle.std.proofs.Common.{◌∙◌, None, Some, ap, refl, subst, sym}
 use Rattle.gaz_keeper.specs.Keeper.{Content, IsAtHand, after_skip}
-use Rattle.gaz_mirror.specs.InStep.{IsAhead}
-use Rattle.gaz_mirror.proofs.Changing.{closed_below, enters_below, enters_both, enters_settled, for_none, in_step_left, no_fault, settled}
+use Rattle.gaz_mirror.proofs.Changing.{enters_below, enters_both, enters_settled, in_step_left, no_fault, settled}
 use Rattle.gaz_mirror.proofs.boards.MirrorShelf.skip.Goals as goal
 
 pub invariant_of-self-2 : goal.invariant_of-self-2
@@ -40,9 +37,9 @@ invariant_of-self g c =
     let low = (g.L.Shelf.seen c.skip-done.new.self).progress in
     let none = settled was m.gathered c.requires in
     record {
-      in_step = λ _. in_step_left g.U.Shelf.seen was low c.in-Some.upper c.skip.new.self (closed_below was m.gathered c.requires) (m.in_step none c.in-Some.upper c.in-Some.is) c.skip-done.ensures.progress c.skip.ensures.progress;
+      in_step = λ _. in_step_left g.U.Shelf.seen was low c.in-Some.upper c.skip.new.self (m.in_step none c.in-Some.upper c.in-Some.is) c.skip-done.ensures.progress c.skip.ensures.progress;
       at_hand = λ x is. refl;
-      ahead = for_none (λ x. ForSome (Some c.skip.new.self) (λ u. IsAhead low (g.U.Shelf.seen u).progress x)) m.gathered none;
+      ahead = λ x is u there. cc;
     }
 
 pub returns-clause-drops : goal.returns-clause-drops

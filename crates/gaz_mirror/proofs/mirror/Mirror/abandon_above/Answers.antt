@@ -1,6 +1,5 @@
 -- The lower keeper is in no judgement.
-use Rattle.std.proofs.Common.{◌≡◌, ◌∙◌, sym}
-use Rattle.std.specs.Prelude.{None, Ok, Some}
+use Rattle.std.proofs.Common.{◌≡◌, ◌∙◌, None, Ok, Some, sym}
 use Rattle.gaz_keeper.specs.Keeper.{Idle, Progress, after_abandon}
 use Rattle.gaz_mirror.proofs.Ahead.{at_some, closed, given_up, of_gathered, there, where_ok}
 use Rattle.gaz_mirror.proofs.mirror.Mirror.abandon_above.Goals as goal

@@ -1,8 +1,5 @@
 use Rattle.std.proofs.Common.{◌∙◌, refl, sym}
-use Rattle.std.specs.Prelude.{Some}
-use Rattle.std.specs.Option.{ForSome}
-use Rattle.gaz_mirror.specs.InStep.{IsAhead}
-use Rattle.gaz_mirror.proofs.Changing.{for_none, in_step_ended, no_fault}
+use Rattle.gaz_mirror.proofs.Changing.{in_step_ended, no_fault}
 use Rattle.gaz_mirror.proofs.mirror.Mirror.abandon_both.Goals as goal
 
 pub invariant_of-self : goal.invariant_of-self
@@ -13,7 +10,7 @@ invariant_of-self g c =
     record {
       in_step = λ _. in_step_ended g.U.Shelf.seen low.progress c.abandon.new.self c.abandon-done.result c.abandon.result ok ok' c.abandon-done.ensures.on c.abandon.ensures.on;
       at_hand = λ x is. refl;
-      ahead = for_none (λ x. ForSome (Some c.abandon.new.self) (λ u. IsAhead low.progress (g.U.Shelf.seen u).progress x)) c.args.self.now.gathered c.requires.settled;
+      ahead = λ x is u there. cc (c.requires.settled);
     }
 
 pub returns-clause-drops : goal.returns-clause-drops

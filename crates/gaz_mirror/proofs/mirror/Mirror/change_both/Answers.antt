@@ -1,11 +1,10 @@
 use Rattle.std.proofs.Common.{ap, ◌∙◌, refl, sym}
 use Rattle.std.specs.Prelude.{⊤, None, Some}
-use Rattle.std.specs.Option.{ForSome}
 use Rattle.gaz_keeper.specs.Keeper.{Content, Progress, with_working}
 use Rattle.gaz_mirror.specs.Gathering.{makes}
 use Rattle.gaz_mirror.specs.declared.gathered.Change.{Change}
-use Rattle.gaz_mirror.specs.InStep.{IsAhead}
-use Rattle.gaz_mirror.proofs.Changing.{for_none, goes_below, goes_both, goes_settled, in_step_on, no_fault}
+use Rattle.gaz_mirror.proofs.Ahead.{where_ok}
+use Rattle.gaz_mirror.proofs.Changing.{goes_below, goes_both, goes_settled, in_step_on, no_fault}
 use Rattle.gaz_mirror.proofs.mirror.Mirror.change_both.Goals as goal
 
 abbrev with_change : Change → Content → Content
@@ -38,9 +37,9 @@ invariant_of-self g c =
     let was = (g.L.Shelf.seen m.lower).progress in
     let low = (g.L.Shelf.seen c.make-made.new.keeper).progress in
     record {
-      in_step = λ _. in_step_on g.U.Shelf.seen was low c.in-Some.upper c.make.new.keeper c.make-made.result c.make.result ok ok' (m.in_step c.requires.settled c.in-Some.upper c.in-Some.is) c.make-made.ensures.makes.on c.make.ensures.makes.on;
+      in_step = λ _. in_step_on g.U.Shelf.seen was low c.in-Some.upper c.make.new.keeper (m.in_step c.requires.settled c.in-Some.upper c.in-Some.is) (where_ok c.make-made.result ok c.make-made.ensures.makes.on) (where_ok c.make.result ok' c.make.ensures.makes.on);
       at_hand = λ x is. refl;
-      ahead = for_none (λ x. ForSome (Some c.make.new.keeper) (λ u. IsAhead low (g.U.Shelf.seen u).progress x)) m.gathered c.requires.settled;
+      ahead = λ x is u there. cc (c.requires.settled);
     }
 
 pub returns-clause-drops : goal.returns-clause-drops

@@ -3,8 +3,8 @@ use Rattle.std.proofs.Common.{◌∙◌, Bool, false, refl, subst, sym, true}
 use Rattle.std.specs.Prelude.{⊤, None, Ok, Some}
 use Rattle.gaz_keeper.specs.Keeper.{Content, Open, Progress, with_working}
 use Rattle.gaz_mirror.specs.Gathering.{AreThen, makes}
-use Rattle.gaz_mirror.specs.Mirroring.{mirrored}
-use Rattle.gaz_mirror.proofs.Ahead.{ahead_by, ahead_on, alone_after, noted_down, of_gathered}
+use Rattle.gaz_mirror.specs.Mirroring.{lawful_with, mirrored}
+use Rattle.gaz_mirror.proofs.Ahead.{ahead_by, ahead_on, noted_down, of_gathered}
 use Rattle.gaz_mirror.proofs.Then.{goes_then}
 use Rattle.gaz_mirror.proofs.mirror.Mirror.gather.Goals as goal
 
@@ -34,6 +34,7 @@ pub hand_to-requires-2 : goal.hand_to-requires-2
 hand_to-requires-2 g c = (c.args.self.now.ahead c.in-Some.gathered (sym c.take.ensures.value ∙ c.in-Some.is) c.in-Some-upper.upper c.in-Some-upper.is).closed
 
 pub returns-then-not-note-clause-makes : goal.returns-then-not-note-clause-makes
+unfolding lawful_with
 returns-then-not-note-clause-makes g c =
     let up = g.U.Shelf.seen in
     let m = c.args.self.now in
@@ -48,10 +49,10 @@ returns-then-not-note-clause-makes g c =
     let down = noted_down up below mid u first noted c.args.change false c.note.ensures.code
     (subst (λ (b : Bool). AreThen first.changes.items noted.changes.items b c.args.change) c.if-not-note.true c.note.ensures.noted) (Ok tt) c.in_ok-hand_to.ensures in
     of_gathered up below new m.upper None m.gathered c.take.new.self u first c.make.result with_it (λ (p : Progress). p) c.in-Some-upper.is these c.take.ensures.after
-    (alone_after up (mirrored up below (Some u) (Some first)) new c.make.result (with_it (with_working below.content (up u).content.working)) (Open first.code)
-    (goes_then (mirrored up below (Some u) (Some first)) mid new c.make.result ⊤ (with_working below.content (up u).content.working) (Open first.code) (λ (p : Progress). with_it) (λ (p : Progress). p) down refl c.make.ensures.makes))
+    (goes_then (mirrored up below (Some u) (Some first)) mid new c.make.result ⊤ (with_working below.content (up u).content.working) (Open first.code) (λ (p : Progress). with_it) (λ (p : Progress). p) down refl c.make.ensures.makes)
 
 pub returns-clause-makes : goal.returns-clause-makes
+unfolding lawful_with
 returns-clause-makes g c =
     let up = g.U.Shelf.seen in
     let m = c.args.self.now in
@@ -62,6 +63,5 @@ returns-clause-makes g c =
     let noted = c.note.new.self in
     let these = sym c.take.ensures.value ∙ c.in-Some.is in
     of_gathered up below new m.upper None m.gathered c.take.new.self u first c.hand_to-2.result (λ (k : Content). with_working k (makes k.working c.args.change)) (λ (p : Progress). p) c.in-Some-upper.is these c.take.ensures.after
-    (alone_after up (mirrored up below (Some u) (Some first)) new c.hand_to-2.result (with_working below.content (makes (up u).content.working c.args.change)) (Open first.code)
     (noted_down up below new u first noted c.args.change true c.note.ensures.code
-    (subst (λ (b : Bool). AreThen first.changes.items noted.changes.items b c.args.change) c.if-not-note.false c.note.ensures.noted) c.hand_to-2.result c.hand_to-2.ensures))
+    (subst (λ (b : Bool). AreThen first.changes.items noted.changes.items b c.args.change) c.if-not-note.false c.note.ensures.noted) c.hand_to-2.result c.hand_to-2.ensures)

@@ -1,9 +1,7 @@
 use Rattle.std.proofs.Common.{ap, ◌∙◌, refl, sym}
 use Rattle.std.specs.Prelude.{⊤, Some}
-use Rattle.std.specs.Option.{ForSome}
 use Rattle.gaz_keeper.specs.Keeper.{Content, Idle, after_keep}
-use Rattle.gaz_mirror.specs.InStep.{IsAhead}
-use Rattle.gaz_mirror.proofs.Changing.{for_none, goes_both, goes_settled, in_step_ended, no_fault}
+use Rattle.gaz_mirror.proofs.Changing.{goes_both, goes_settled, in_step_ended, no_fault}
 use Rattle.gaz_mirror.proofs.mirror.Mirror.keep_both.Goals as goal
 
 pub returns-clause-keeps : goal.returns-clause-keeps
@@ -25,7 +23,7 @@ invariant_of-self g c =
     record {
       in_step = λ _. in_step_ended g.U.Shelf.seen low.progress c.keep.new.self c.keep-done.result c.keep.result ok ok' c.keep-done.ensures.keeps.on c.keep.ensures.keeps.on;
       at_hand = λ x is. refl;
-      ahead = for_none (λ x. ForSome (Some c.keep.new.self) (λ u. IsAhead low.progress (g.U.Shelf.seen u).progress x)) c.args.self.now.gathered c.requires.settled;
+      ahead = λ x is u there. cc (c.requires.settled);
     }
 
 pub returns-clause-drops : goal.returns-clause-drops
