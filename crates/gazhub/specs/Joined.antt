@@ -11,6 +11,7 @@ use Rattle.sqlite_store.specs.declared.store.FileStore.{FileStore}
 use Rattle.sqlite_trees.specs.declared.store.Store.{Ghosts}
 use Rattle.gaz_register.specs.Registers.{IsRegister, RegisterValue}
 use Rattle.gaz_tables.specs.Creating.{HasRoom}
+use Rattle.gaz_store.specs.Opened.{IsRefused}
 use Rattle.gaz_store.specs.Seen.{IsUnharmed}
 use Rattle.gaz_store.specs.declared.growing.ExtendFault.{ExtendFault}
 use Rattle.gaz_hub.specs.Step.{Command, new_hub}
@@ -92,15 +93,19 @@ module _ {D : Type 0} (g : disk.Ghosts D) where
         is_found = it.is_found;
       }
 
-  -- it was given these files, on a disk that returned what was written
-  abbrev pub IsGiven : Option (Files D) → FileCall → Type 0
-  IsGiven left next =
-      (left ≡ Some next.files) × HasCleanDisk (file_state (came_over next.call).conn)
+  -- it was given these files, on a disk that returned what was written, or what a making of a store
+  -- gave back that was given them and was refused, while no failure shut its connection
+  pub data IsGiven (next : FileCall) : Option (Files D) → Type 0 where
+    Given : HasCleanDisk (file_state (came_over next.call).conn) → IsGiven next (Some next.files)
+    BehindRefusal : (files : Files D) (left : Option (Files D))
+        (over : OverFiles g files left (IsRefused shown))
+        → HasCleanDisk (file_state over.conn) → IsUnharmed (file_state over.after)
+        → IsGiven next left → IsGiven next (Some files)
 
   -- the next call was given the files that this one gave back; or it shows what a stop left of it
   abbrev pub IsPassedOn : {before after : Held (FileStore D g)} {found : Database}
       → IsFoundAfter shown before after found → Option (Files D) → FileCall → Type 0
-  IsPassedOn (Whole fine same) left next = IsGiven left next
+  IsPassedOn (Whole fine same) left next = IsGiven next left
   IsPassedOn {before} {after} {found} (CutOff itself may) left next =
       (file_state (came_over next.call).conn).now ≡ found
 
@@ -124,7 +129,7 @@ module _ {D : Type 0} (g : disk.Ghosts D) where
     pub behind : (register : RegisterValue) (old : Held (FileStore D g)) (left : Option (Files D))
         (first : FileCall) (later : List FileCall)
         → IsRegister register → IsStoreOf register (file_state old).now
-        → IsUnharmed (file_state old) → Closes g old left → IsGiven left first
+        → IsUnharmed (file_state old) → Closes g old left → IsGiven first left
         → FollowOn first later → AreOne register (file_state old).now (first ∷ later)
     -- where one is made and there was room, it is a store of its register that was asked nothing
     pub made : (register : RegisterValue) (files : Files D) (left : Option (Files D))

@@ -30,4 +30,4 @@ module _ {D : Type 0} (g : disk.Ghosts D) where
         (fine : IsUnharmed (file_state over.after)) → HasCleanDisk (file_state over.conn)
         → FollowOn g (in_vain files over fine) (in_vain files over fine ∷ [])
     -- no files were given back
-    pub lost : (call : FileCall g) → ¬ IsGiven g None call
+    pub lost : (call : FileCall g) → ¬ IsGiven g call None
