@@ -5,8 +5,7 @@ use Rattle.std.specs.Io.KnownBytes.{Keeps}
 use Rattle.std.proofs.KnownBytes.{Appends-kept}
 use Rattle.gaz_keeper.specs.Keeper.{Seen}
 use Rattle.gaz_hub.specs.Answers.{AllAnswered}
-use Rattle.gaz_hub.specs.Hubs.{Runs, state_of}
-use Rattle.gaz_hub.specs.Laws.{StandsForRun}
+use Rattle.gaz_hub.specs.Hubs.{Runs, StandsFor, state_of}
 use Rattle.gaz_hub.specs.Step.{Command, Door, Response}
 use Rattle.gaz_hub.proofs.Answers.{every_answer_holds}
 use Rattle.gaz_exchange.specs.declared.conversation.Served.{Served}
@@ -35,16 +34,16 @@ ends_by most passed n ended.InputEnd e w = absurd (no_input_end (n == most) e)
 
 -- what the answers of a run are read off
 pub answers_off : (d : Door) (old new : Seen) (commands : List Command) (responses : List Response) → Runs d old new commands responses
-    → StandsForRun d old → new.unharmed → AllAnswered d old.content.files commands responses new.content.files
+    → StandsFor d old → new.unharmed → AllAnswered d old.content.files commands responses new.content.files
 answers_off d old new commands responses r was fine =
-    every_answer_holds d (state_of old.content) (state_of new.content) commands responses was.partial (r.run was.stands fine)
+    every_answer_holds d (state_of old.content) (state_of new.content) commands responses was.1.partial (r.run was fine)
 
 -- and whatever a failure shut
 pub ever_off : (d : Door) (old new : Seen) (commands : List Command) (responses : List Response) → Runs d old new commands responses
-    → StandsForRun d old → new.trusted → SomeAnswered d old.content.files commands responses
+    → StandsFor d old → new.trusted → SomeAnswered d old.content.files commands responses
 ever_off d old new commands responses r was t =
-    let reached = r.reaches was.stands t in
-    (reached.0.received, every_answer_holds d (state_of old.content) reached.0 commands responses was.partial reached.1)
+    let reached = r.reaches was t in
+    (reached.0.received, every_answer_holds d (state_of old.content) reached.0 commands responses was.1.partial reached.1)
 
 module _ (d : Door) where
   -- behind the last reply the writer was flushed, or failed in that

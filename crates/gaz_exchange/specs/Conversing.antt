@@ -5,8 +5,7 @@ use Rattle.std.specs.Io.KnownBytes.{Appends, Consumes, IsAtEnd}
 use Rattle.gaz_keeper.specs.Keeper.{Seen}
 use Rattle.gaz_keeper.specs.Received.{Received}
 use Rattle.gaz_hub.specs.Answers.{AllAnswered}
-use Rattle.gaz_hub.specs.Hubs.{Runs}
-use Rattle.gaz_hub.specs.Laws.{StandsForRun}
+use Rattle.gaz_hub.specs.Hubs.{Runs, StandsFor}
 use Rattle.gaz_hub.specs.Step.{Command, Door, Response}
 use Rattle.gaz_exchange.specs.Heads.{IsOver}
 use Rattle.gaz_exchange.specs.Exchanges.{Exchange, Comes, RoutesStay, goes_on, replies, commands_of}
@@ -168,11 +167,11 @@ pub record Conversation (door : Door) (most : ℕ) (through : Transfer) (old new
   -- where the keeper stood for a partial run before and nobody else wrote on it: what is received
   -- is what was there and what came first, and each answer is read off the standing board of the
   -- files that were received by then
-  pub answers : StandsForRun door old → new.unharmed →
+  pub answers : StandsFor door old → new.unharmed →
       AllAnswered door old.content.files (commands_of exchanges) (responses_of exchanges)
       new.content.files
   -- so it is of the files of some hub, whatever a failure shut by then
-  pub answers_ever : StandsForRun door old → new.trusted →
+  pub answers_ever : StandsFor door old → new.trusted →
       SomeAnswered door old.content.files (commands_of exchanges) (responses_of exchanges)
   pub comes_to : ComesTo most
       (record { exchanges = exchanges; rest = rest; left = through.left; written = written }) result

@@ -1,9 +1,8 @@
 -- Answers as steps.
 use Rattle.std.proofs.Common.{◌≡◌, ℕ, Bool, true, false, true≢false, cond, not, List, length, refl, sym, ap, ◌∙◌, subst, arith}
-use Rattle.std.specs.Cmp.{eq_by_cmp_equiv}
 use Rattle.std.specs.Prelude.{Option, Some, None, is_some, Ok, Err}
 use Rattle.std.specs.FinMap as map
-use Rattle.gaz_keeper.proofs.Pairs.{pairs_total}
+use Rattle.gaz_keeper.proofs.Pairs.{pairs_total, there_now}
 use Rattle.gaz_keeper.specs.Board.{Board, empty_board}
 use Rattle.gaz_keeper.specs.Keeper.{Content, Enters, IsNew, IsNotOpen, Seen, with_received}
 use Rattle.gaz_keeper.specs.Received.{Received, with_file}
@@ -47,12 +46,6 @@ pub is_known : (d : Door) (c volume : ℕ) (bytes : List ℕ) → file_refusal d
 is_known d c volume bytes e = known_at (knows d.register c) _ (early_let_in d c volume bytes e)
 
 -- ---- what is there
-
--- what was received now is there
-pub there_now : (F K : Received) (c volume : ℕ) (bytes : List ℕ) → K ≡ with_file F c volume bytes → map.get K (c, volume) ≡ Some bytes
-there_now F K c volume bytes e =
-    ap (λ X. map.get X (c, volume)) e ∙ map.get-insert pairs_total F (c, volume) bytes (c, volume)
-    ∙ ap (λ b. cond b (Some bytes) (map.get F (c, volume))) ((eq_by_cmp_equiv pairs_total).refl (c, volume))
 
 pub known_with : (d : Door) (F : Received) (c volume : ℕ) (bytes : List ℕ) → knows d.register c ≡ true → AreKnown d F → AreKnown d (with_file F c volume bytes)
 known_with d F c volume bytes e known p h =

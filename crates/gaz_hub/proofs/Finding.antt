@@ -9,8 +9,7 @@ use Rattle.gaz_keeper.specs.Keeper.{Content, LeavesOnly, Seen, after_stop}
 use Rattle.gaz_keeper.specs.Received.{Received, with_file}
 use Rattle.gaz_views.specs.View.{empty_view}
 use Rattle.gaz_hub.specs.Found.{EveryStopOver, HasFilesAfter, HasFilesAt, HasFilesOf}
-use Rattle.gaz_hub.specs.Hubs.{AreKnown, Runs, state_of}
-use Rattle.gaz_hub.specs.Laws.{StandsForRun}
+use Rattle.gaz_hub.specs.Hubs.{AreKnown, Runs, StandsFor, state_of}
 use Rattle.gaz_hub.specs.Runs.{Run, accepted, is_answered_51, same_pair}
 use Rattle.gaz_hub.specs.Standing.{HasAllOf, IsPartial}
 use Rattle.gaz_hub.specs.Step.{Command, Door, HubState, Pose, Replied, Response, Step, Submit, Submitted, blocks, file_refusal}
@@ -24,36 +23,42 @@ use Rattle.gaz_hub.proofs.Leading.{follows_more, follows_on}
 use Rattle.gaz_hub.proofs.Runs.{every_run_from_holds}
 use Rattle.gaz_hub.proofs.Steps.{goes, has_all_with, pairs_same}
 
--- ---- who is known
+-- ---- what is so of whatever the door lets in
 
-known_if : (d : Door) (p q : ℕ × ℕ) (volume : ℕ) (bytes : List ℕ) (same late : Bool) (o : Option DoorRefusal) → (same ≡ true → p ≡ q) → (o ≡ None → knows d.register q.0 ≡ true)
-    → is_some (cond (same && (is_none o && late)) (Some bytes) None) ≡ true → knows d.register p.0 ≡ true
-known_if d p q volume bytes true true None is known h = ap (λ (x : ℕ × ℕ). knows d.register x.0) (is refl) ∙ known refl
-known_if d p q volume bytes true false None is known h = absurd (true≢false (sym h))
-known_if d p q volume bytes true late (Some r) is known h = absurd (true≢false (sym h))
-known_if d p q volume bytes false late o is known h = absurd (true≢false (sym h))
+module _ (d : Door) (So : ℕ × ℕ → Type 0) (let_in : (c volume : ℕ) (bytes : List ℕ) → file_refusal d c volume bytes ≡ None → So (c, volume)) where
+  so_if : (p q : ℕ × ℕ) (bytes : List ℕ) (same late : Bool) (o : Option DoorRefusal) → (same ≡ true → p ≡ q) → (o ≡ None → So q)
+      → is_some (cond (same && (is_none o && late)) (Some bytes) None) ≡ true → So p
+  so_if p q bytes true true None is so h = subst So (sym (is refl)) (so refl)
+  so_if p q bytes true false None is so h = absurd (true≢false (sym h))
+  so_if p q bytes true late (Some r) is so h = absurd (true≢false (sym h))
+  so_if p q bytes false late o is so h = absurd (true≢false (sym h))
 
--- whose file was accepted
-accepted_known : (d : Door) (p : ℕ × ℕ) (command : Command) (response : Response) → is_some (accepted d p command response) ≡ true → knows d.register p.0 ≡ true
-accepted_known d p (Submit c volume bytes) (Submitted answer) h =
-    known_if d p (c, volume) volume bytes (same_pair p (c, volume)) (not (is_answered_51 answer)) (file_refusal d c volume bytes) (pairs_same p (c, volume)) (is_known d c volume bytes) h
-accepted_known d p (Submit c volume bytes) (Replied q reply) h = absurd (true≢false (sym h))
-accepted_known d p (Pose q) response h = absurd (true≢false (sym h))
+  accepted_so : (p : ℕ × ℕ) (command : Command) (response : Response) → is_some (accepted d p command response) ≡ true → So p
+  accepted_so p (Submit c volume bytes) (Submitted answer) h =
+      so_if p (c, volume) bytes (same_pair p (c, volume)) (not (is_answered_51 answer)) (file_refusal d c volume bytes) (pairs_same p (c, volume)) (let_in c volume bytes) h
+  accepted_so p (Submit c volume bytes) (Replied q reply) h = absurd (true≢false (sym h))
+  accepted_so p (Pose q) response h = absurd (true≢false (sym h))
 
-either_known : {T : Type 0} (X : Type 0) (a b : Option T) → is_some (option_or a b) ≡ true → (is_some a ≡ true → X) → (is_some b ≡ true → X) → X
-either_known X (Some x) b h f g = f refl
-either_known X None b h f g = g h
+  either_so : {T : Type 0} (X : Type 0) (a b : Option T) → is_some (option_or a b) ≡ true → (is_some a ≡ true → X) → (is_some b ≡ true → X) → X
+  either_so X (Some x) b h f g = f refl
+  either_so X None b h f g = g h
 
-step_known : (d : Door) (old new : HubState) (command : Command) (response : Response) → Step d old command response new → AreKnown d old.received → AreKnown d new.received
-step_known d old new command response s known p h =
-    either_known (knows d.register p.0 ≡ true) (map.get old.received p) (accepted d p command response)
-    (ap is_some (sym ((goes d old command response new s).first p)) ∙ h) (known p) (accepted_known d p command response)
+  abbrev AreSo : Received → Type 0
+  AreSo files = (p : ℕ × ℕ) → is_some (map.get files p) ≡ true → So p
+
+  step_so : (old new : HubState) (command : Command) (response : Response) → Step d old command response new → AreSo old.received → AreSo new.received
+  step_so old new command response s all p h =
+      either_so (So p) (map.get old.received p) (accepted d p command response) (ap is_some (sym ((goes d old command response new s).first p)) ∙ h) (all p) (accepted_so p command response)
+
+  -- it is of all that is received, where it was
+  pub run_so : (old new : HubState) (commands : List Command) (responses : List Response) → Run d old commands responses new → AreSo old.received → AreSo new.received
+  run_so old new [] [] r all = subst (λ (hub : HubState). AreSo hub.received) (sym r) all
+  run_so old new (command ∷ commands) (response ∷ responses) r all = run_so r.0 new commands responses r.2 (step_so old r.0 command response r.1 all)
+  run_so old new [] (response ∷ responses) r all = absurd r
+  run_so old new (command ∷ commands) [] r all = absurd r
 
 pub run_known : (d : Door) (old new : HubState) (commands : List Command) (responses : List Response) → Run d old commands responses new → AreKnown d old.received → AreKnown d new.received
-run_known d old new [] [] r known = subst (λ (hub : HubState). AreKnown d hub.received) (sym r) known
-run_known d old new (command ∷ commands) (response ∷ responses) r known = run_known d r.0 new commands responses r.2 (step_known d old r.0 command response r.1 known)
-run_known d old new [] (response ∷ responses) r known = absurd r
-run_known d old new (command ∷ commands) [] r known = absurd r
+run_known d = run_so d (λ p. knows d.register p.0 ≡ true) (is_known d)
 
 -- ---- one content
 
@@ -132,7 +137,7 @@ files_have_all d hub commands responses files l p bytes at = at_have_all d l.mid
 -- ---- after a run
 
 module _ {K : Type 0} (seen : K → Seen) (d : Door) (old new : K) (commands : List Command) (responses : List Response)
-    (was : StandsForRun d (seen old)) (just : LeavesOnly (seen old).content (seen old)) (r : Runs d (seen old) (seen new) commands responses) (k : Content) where
+    (was : StandsFor d (seen old)) (just : LeavesOnly (seen old).content (seen old)) (r : Runs d (seen old) (seen new) commands responses) (k : Content) where
   abbrev hub : HubState
   hub = state_of (seen old).content
 
@@ -141,21 +146,21 @@ module _ {K : Type 0} (seen : K → Seen) (d : Door) (old new : K) (commands : L
   first_well e =
       record {
         working = ap (λ (m : Content). m.working) e;
-        known = subst (λ (m : Content). AreKnown d m.files) (sym e) was.stands.1.known;
-        partial = subst (λ (m : Content). IsPartial (blocks d) m.files m.board) (sym e) was.partial;
+        known = subst (λ (m : Content). AreKnown d m.files) (sym e) was.1.known;
+        partial = subst (λ (m : Content). IsPartial (blocks d) m.files m.board) (sym e) was.1.partial;
       }
 
   after_well : IsLeftAfter d commands responses hub k → IsWell d k
-  after_well l = left_well d l.command l.mid k (run_known d hub l.mid l.earlier l.told l.run was.stands.1.known) (every_run_from_holds d hub l.mid l.earlier l.told was.partial l.run).partial l.left
+  after_well l = left_well d l.command l.mid k (run_known d hub l.mid l.earlier l.told l.run was.1.known) (every_run_from_holds d hub l.mid l.earlier l.told was.1.partial l.run).partial l.left
 
   well : (seen new).leaves k → IsWell d k
-  well left = elim ((r.stops (λ _. was.stands)).ever k left) [
+  well left = elim ((r.stops (λ _. was)).ever k left) [
     | inl before ↦ first_well (just k before)
     | inr made ↦ after_well made.1
   ]
 
   ever : (seen new).leaves k → HasFilesAfter d hub commands responses k.files
-  ever left = elim ((r.stops (λ _. was.stands)).ever k left) [
+  ever left = elim ((r.stops (λ _. was)).ever k left) [
     | inl before ↦ record {
       earlier = [];
       told = [];
@@ -183,7 +188,7 @@ module _ {K : Type 0} (seen : K → Seen) (d : Door) (old new : K) (commands : L
   ]
 
   now : (seen new).leaves k → (seen new).unharmed → HasFilesOf d hub (state_of (seen new).content) commands responses k.files
-  now left fine = elim ((r.stops (λ _. was.stands)).now fine k left) [
+  now left fine = elim ((r.stops (λ _. was)).now fine k left) [
     | inl before ↦ inl (ap (λ (m : Content). m.files) (just k before.0) ∙ sym (ap (λ (h : HubState). h.received) before.1))
     | inr l ↦ since_files d hub (state_of (seen new).content) commands l.earlier l.later responses l.told l.more l.command l.response k l.commands_are l.responses_are l.run l.since l.left
   ]
@@ -192,7 +197,7 @@ pub every_stop_over : {K : Type 0} (seen : K → Seen) → EveryStopOver seen
 every_stop_over seen d old new commands responses was just r k left =
     let w = well seen d old new commands responses was just r k left in
     let later = ever seen d old new commands responses was just r k left in
-    let received = (r.stops (λ _. was.stands)).received k left in
+    let received = (r.stops (λ _. was)).received k left in
     let before = state_of (seen old).content in
     record {
       working = w.working;

@@ -67,12 +67,8 @@ pub growth_stands_holds : {K : Type 0} (seen : K → Seen) → GrowthStands seen
 growth_stands_holds seen old grown k more run =
     let F = (seen k).content.files in
     let B = (seen k).content.board in
-    let known = run.stands.1.known in
-    let partial = partial_grown old grown F more known B run.partial in
-    record {
-      stands = (run.stands.0, record { known = known_grown old grown F more known; partial = partial });
-      partial = partial;
-    }
+    let known = run.1.known in
+    (run.0, record { known = known_grown old grown F more known; partial = partial_grown old grown F more known B run.1.partial })
 
 -- ---- one period after another
 

@@ -12,7 +12,7 @@ use Rattle.gaz_keeper.specs.Board.{Board, empty_board, reached}
 use Rattle.gaz_keeper.specs.Keeper.{Content, Seen, empty_content}
 use Rattle.gaz_keeper.specs.Received.{Received, pair_cmp}
 use Rattle.gaz_hub.specs.Hubs.{MayHave, StandsFor, state_of}
-use Rattle.gaz_hub.specs.Laws.{AllSound, EveryAnswerOver, EveryRunFromOver, EveryRunOver, EverySettledRunFromOver, EverySettledRunOver, StandsForRun}
+use Rattle.gaz_hub.specs.Laws.{AllSound, EveryAnswerOver, EveryRunFromOver, EveryRunOver, EverySettledRunFromOver, EverySettledRunOver}
 use Rattle.gaz_hub.specs.Standing.{Leads, Register, judge_one, ready}
 use Rattle.gaz_hub.specs.Step.{Door, blocks}
 use Rattle.gaz_hub.proofs.Advancing.{added_is}
@@ -34,15 +34,11 @@ may_begin d k files board =
 begins_so : (d : Door) (old : Seen) → old.stands → old.content ≡ empty_content → StandsFor d old
 begins_so d old stood e = (stood, may_begin d old.content (ap (λ (k : Content). k.files) e) (ap (λ (k : Content). k.board) e))
 
-begins_run : (d : Door) (old : Seen) → old.stands → old.content ≡ empty_content → StandsForRun d old
-begins_run d old stood e =
-    record { stands = begins_so d old stood e; partial = follows_itself (blocks d) old.content.files empty_board old.content.board (ap (λ (k : Content). k.board) e) }
-
 pub every_run_from_over : {K : Type 0} (seen : K → Seen) → EveryRunFromOver seen
 every_run_from_over seen d old new commands responses was fine r =
     record {
-      stands = r.stands was.stands fine;
-      abides = every_run_from_holds d (state_of (seen old).content) (state_of (seen new).content) commands responses was.partial (r.run was.stands fine);
+      stands = r.stands was fine;
+      abides = every_run_from_holds d (state_of (seen old).content) (state_of (seen new).content) commands responses was.1.partial (r.run was fine);
     }
 
 pub every_settled_run_from_over : {K : Type 0} (seen : K → Seen) → EverySettledRunFromOver seen
@@ -50,27 +46,27 @@ every_settled_run_from_over seen d old new commands responses command response w
     every_settled_run_from_holds d (state_of (seen new).content)
     (record {
       old = state_of (seen old).content;
-      partial = was.partial;
+      partial = was.1.partial;
       commands = commands;
       responses = responses;
       command = command;
       response = response;
-      run = r.run was.stands fine;
+      run = r.run was fine;
       settles = settles;
     })
 
 pub every_answer_over : {K : Type 0} (seen : K → Seen) → EveryAnswerOver seen
 every_answer_over seen d old new commands responses was fine r =
-    every_answer_holds d (state_of (seen old).content) (state_of (seen new).content) commands responses was.partial (r.run was.stands fine)
+    every_answer_holds d (state_of (seen old).content) (state_of (seen new).content) commands responses was.1.partial (r.run was fine)
 
 pub every_run_over : {K : Type 0} (seen : K → Seen) → EveryRunOver seen
 every_run_over seen d old new commands responses stood empty fine r =
-    let k = every_run_from_over seen d old new commands responses (begins_run d (seen old) stood empty) fine r in
+    let k = every_run_from_over seen d old new commands responses (begins_so d (seen old) stood empty) fine r in
     record { stands = k.stands.0; abides = abides_after d _ commands responses _ (ap state_of empty) k.abides }
 
 pub every_settled_run_over : {K : Type 0} (seen : K → Seen) → EverySettledRunOver seen
 every_settled_run_over seen d old new commands responses command response stood empty fine r settled =
-    every_settled_run_from_over seen d old new commands responses command response (begins_run d (seen old) stood empty) fine r settled
+    every_settled_run_from_over seen d old new commands responses command response (begins_so d (seen old) stood empty) fine r settled
 
 -- ---- the views on a board
 

@@ -13,11 +13,11 @@ use Rattle.gaz_keeper.specs.Keeper.{Counts, IsLeft, IsNotOpen, Progress, Idle, O
 use Rattle.gaz_keeper.specs.Received.{Received}
 use Rattle.gaz_keeper.specs.declared.fault.ShelfFault.{ShelfFault}
 use Rattle.gaz_keeper.specs.declared.fault.ShelfFault.TheVariants.{Store}
-use Rattle.gaz_keeper.proofs.Keeping.{keeps_then}
+use Rattle.gaz_keeper.proofs.Keeping.{keeps_itself, keeps_then}
 use Rattle.gaz_rules.specs.Bases.{are_reached}
 use Rattle.gaz_rules.specs.Judging.{bases_of}
 use Rattle.gaz_extract.specs.Readings.{Looks}
-use Rattle.gaz_extract.proofs.Readings.{if_ok, keeps_itself}
+use Rattle.gaz_extract.proofs.Readings.{if_ok}
 use Rattle.gaz_hub.specs.Outcomes.{first_unreached, wants, wants_as}
 use Rattle.gaz_hub.specs.Settling.{IsNext, IsReadAs, wanted_by}
 use Rattle.gaz_hub.specs.Standing.{next_reading, ready}

@@ -2,14 +2,13 @@
 use Rattle.std.proofs.Common.{◌≡◌, inl, inr, ℕ, true, false, cond, true≢false, List, [], ◌∷◌, ◌++◌, length, refl, sym, ap, ◌∙◌, subst, arith}
 use Rattle.std.specs.Prelude.{None, Some}
 use Rattle.std.specs.FinMap as map
-use Rattle.gaz_keeper.proofs.Pairs.{pairs_total}
+use Rattle.gaz_keeper.proofs.Pairs.{pairs_total, there_now}
 use Rattle.gaz_keeper.specs.Received.{Received, with_file}
 use Rattle.gaz_keeper.specs.Keeper.{Content}
 use Rattle.gaz_hub.specs.Runs.{Run, same_pair}
 use Rattle.gaz_hub.specs.Step.{Command, Door, HubState, Pose, Replied, Response, Step, Submit, Submitted}
 use Rattle.gaz_hub.specs.declared.answer.Answer.TheVariants.{New, Repeat, Taken, Refused}
 use Rattle.gaz_hub.specs.declared.refusal.Refusal.TheVariants as refusal
-use Rattle.gaz_hub.proofs.AnswerSteps.{there_now}
 use Rattle.gaz_hub.proofs.Answers.{received_then}
 use Rattle.gaz_hub.proofs.Steps.{goes, has_all_with, pairs_same}
 use Rattle.gaz_hub.specs.Standing.{HasAllOf}

@@ -2,6 +2,7 @@
 use Rattle.std.proofs.Common.{◌≡◌, ◌∙◌, ap, inl, inr, ℕ, zero, suc, Bool, true, false, [], ◌∷◌, ◌++◌, List, refl, subst, sym, true≢false}
 use Rattle.std.specs.Prelude.{◌==◌, if◌then◌else◌, Some, is_some, slice_get, unwrap_or}
 use Rattle.std.specs.FinMap as map
+use Rattle.gaz_keeper.proofs.Pairs.{there_now}
 use Rattle.gaz_keeper.specs.Board.{empty_board}
 use Rattle.gaz_keeper.specs.Keeper.{Content, IsLawful, Seen}
 use Rattle.gaz_views.proofs.Lawful.{lawful_empty}
@@ -18,7 +19,7 @@ use Rattle.gaz_hub.specs.Stops.{IsLater, IsLaterWith, IsLeftOnceTold, IsLeftSinc
 use Rattle.gaz_hub.specs.WorkedFound.{WorkedCalls, WorkedFound, WorkedRunsStopped, WorkedSince, WorkedTold, keeps, told_51, told_new, told_repeat, told_settled}
 use Rattle.gaz_hub.specs.WorkedStops.{at_rest, sends, unjudged_hub}
 use Rattle.gaz_hub.specs.declared.question.Question.TheVariants.{Settle}
-use Rattle.gaz_hub.proofs.AnswerSteps.{known_with, there_now}
+use Rattle.gaz_hub.proofs.AnswerSteps.{known_with}
 use Rattle.gaz_hub.proofs.Examples.{closed_empty, closed_first, get_first, no_none, partial_first}
 use Rattle.gaz_hub.proofs.RunStops.{run_stops_one}
 use Rattle.gaz_hub.proofs.Leading.{follows_itself}

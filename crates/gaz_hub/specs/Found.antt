@@ -5,8 +5,7 @@ use Rattle.gaz_keeper.specs.Keeper.{Content, LeavesOnly, Seen}
 use Rattle.gaz_keeper.specs.Received.{Received, with_file}
 use Rattle.gaz_keeper.specs.declared.fault.ShelfFault.{ShelfFault}
 use Rattle.gaz_views.specs.View.{empty_view}
-use Rattle.gaz_hub.specs.Hubs.{AreKnown, Runs, state_of}
-use Rattle.gaz_hub.specs.Laws.{StandsForRun}
+use Rattle.gaz_hub.specs.Hubs.{AreKnown, Runs, StandsFor, state_of}
 use Rattle.gaz_hub.specs.Runs.{Run}
 use Rattle.gaz_hub.specs.Standing.{IsPartial}
 use Rattle.gaz_hub.specs.Step.{Command, Door, HubState, Response, Submit, Submitted, blocks}
@@ -95,7 +94,7 @@ pub record IsFound (door : Door) (old new : Seen) (commands : List Command)
 abbrev pub EveryStopOver : {K : Type 0} → (K → Seen) → Type 0
 EveryStopOver {K} seen =
     (door : Door) (old new : K) (commands : List Command) (responses : List Response)
-    → StandsForRun door (seen old) → LeavesOnly (seen old).content (seen old)
+    → StandsFor door (seen old) → LeavesOnly (seen old).content (seen old)
     → Runs door (seen old) (seen new) commands responses
     → (k : Content) → (seen new).leaves k
     → IsFound door (seen old) (seen new) commands responses k

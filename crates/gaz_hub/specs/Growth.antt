@@ -9,8 +9,7 @@ use Rattle.gaz_keeper.specs.Board.{Board}
 use Rattle.gaz_keeper.specs.Keeper.{Seen}
 use Rattle.gaz_keeper.specs.Received.{Received}
 use Rattle.gaz_hub.specs.Answers.{AllReadOff, received_by}
-use Rattle.gaz_hub.specs.Hubs.{AreKnown, door_of}
-use Rattle.gaz_hub.specs.Laws.{StandsForRun}
+use Rattle.gaz_hub.specs.Hubs.{AreKnown, StandsFor, door_of}
 use Rattle.gaz_hub.specs.Runs.{Run, first_received}
 use Rattle.gaz_hub.specs.Standing.{IsPartial, standing}
 use Rattle.gaz_hub.specs.Step.{Command, HubState, Response, answer_to, refusal_at_door}
@@ -36,7 +35,7 @@ pub record GrowthKeeps : Type 0 where
 abbrev pub GrowthStands : {K : Type 0} → (K → Seen) → Type 0
 GrowthStands {K} seen =
     (old grown : RegisterValue) (k : K) → Extends old grown
-    → StandsForRun (door_of old) (seen k) → StandsForRun (door_of grown) (seen k)
+    → StandsFor (door_of old) (seen k) → StandsFor (door_of grown) (seen k)
 
 -- whoever was let in is let in still, and on a partial board whoever asks is answered the same
 pub record AnswersStay : Type 0 where

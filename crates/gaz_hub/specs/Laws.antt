@@ -54,11 +54,6 @@ pub record CallsMakeRuns {K : Type 0} (seen : K → Seen) : Type 0 where
 
 -- ---- over a keeper that stands for a partial run
 
--- the keeper stands for a partial run of files of custodians that the door knows
-pub record StandsForRun (door : Door) (s : Seen) : Type 0 where
-  pub stands : StandsFor door s
-  pub partial : IsPartial (blocks door) s.content.files s.content.board
-
 -- the keeper still does: of what was there before and then of what came first
 pub record StandsFrom (door : Door) (old : Seen) (commands : List Command)
     (responses : List Response) (new : Seen) : Type 0 where
@@ -69,7 +64,7 @@ pub record StandsFrom (door : Door) (old : Seen) (commands : List Command)
 abbrev pub EveryRunFromOver : {K : Type 0} → (K → Seen) → Type 0
 EveryRunFromOver {K} seen =
     (door : Door) (old new : K) (commands : List Command) (responses : List Response)
-    → StandsForRun door (seen old) → (seen new).unharmed
+    → StandsFor door (seen old) → (seen new).unharmed
     → Runs door (seen old) (seen new) commands responses
     → StandsFrom door (seen old) commands responses (seen new)
 
@@ -78,7 +73,7 @@ abbrev pub EverySettledRunFromOver : {K : Type 0} → (K → Seen) → Type 0
 EverySettledRunFromOver {K} seen =
     (door : Door) (old new : K) (commands : List Command) (responses : List Response)
     (command : Command) (response : Response)
-    → StandsForRun door (seen old) → (seen new).unharmed
+    → StandsFor door (seen old) → (seen new).unharmed
     → Runs door (seen old) (seen new) (commands ++ command ∷ []) (responses ++ response ∷ [])
     → is_settled response ≡ true
     → (seen new).content.board ≡ standing (blocks door) (seen new).content.files
@@ -87,7 +82,7 @@ EverySettledRunFromOver {K} seen =
 abbrev pub EveryAnswerOver : {K : Type 0} → (K → Seen) → Type 0
 EveryAnswerOver {K} seen =
     (door : Door) (old new : K) (commands : List Command) (responses : List Response)
-    → StandsForRun door (seen old) → (seen new).unharmed
+    → StandsFor door (seen old) → (seen new).unharmed
     → Runs door (seen old) (seen new) commands responses
     → AllAnswered door (seen old).content.files commands responses (seen new).content.files
 

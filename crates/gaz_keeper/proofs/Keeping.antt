@@ -21,6 +21,15 @@ keeps_then a b c first second =
       whole = λ sound whole. second.whole (λ fine. first.stands (sound (first.harm fine)) fine) (first.whole sound whole);
     }
 
+left_itself : (p : Progress) → IsLeft p p
+left_itself Idle = refl
+left_itself (Open c) = refl
+left_itself Broken = λ c e. cc
+
+-- where the keeper isn't called
+pub keeps_itself : (a : Seen) → Keeps a a
+keeps_itself a = record { harm = λ fine. fine; stands = λ stood _. stood; content = λ _ _. refl; progress = left_itself a.progress; leaves = λ _ k left. left; whole = λ _ whole. whole }
+
 pub still_open : (a b : Seen) (c : ℕ) → Keeps a b → a.progress ≡ Open c → b.progress ≡ Open c
 still_open a b c k e = subst (λ p. IsLeft p b.progress) e k.progress
 

@@ -13,6 +13,7 @@ use Rattle.gaz_records.specs.declared.key.Key.TheVariants as key
 use Rattle.gaz_views.specs.View.{View}
 use Rattle.gaz_views.specs.Words.{address_of, approved_of, property_of}
 use Rattle.gaz_overlay.specs.Rows.{HistoryRow}
+use Rattle.gaz_overlay.specs.declared.touch.Stood.{Stood}
 use Rattle.gaz_tables.specs.Schema.{received, version2}
 use Rattle.gaz_tables.specs.Versions.{FindsApprovedOf, FindsNewest, FindsNewestUntil}
 use Rattle.gaz_tables.specs.Tables.{rows_of}
@@ -20,12 +21,12 @@ use Rattle.gaz_kept.specs.Addresses.{SaysKeys, SaysLeast}
 use Rattle.gaz_kept.specs.Files.{reached_in}
 use Rattle.gaz_kept.specs.Kept.{IsKept}
 use Rattle.gaz_kept.specs.LastViews.{last_in}
-use Rattle.gaz_kept.specs.Newest.{IsNewest, IsNewestUntil, SaysNewest, current_in, item_after}
+use Rattle.gaz_kept.specs.Newest.{IsNewest, IsNewestUntil, SaysNewest, SaysStood, current_in, item_after, stood_by}
 use Rattle.gaz_kept.specs.Versions.{histories_in, view_in}
 use Rattle.gaz_kept.specs.declared.newest.Life.{Life}
 use Rattle.gaz_kept.proofs.AtKeys.{item_at, last_item}
 use Rattle.gaz_kept.proofs.Approved.{address_told, approved_told}
-use Rattle.gaz_kept.proofs.NewestRows.{newest_told, newest_until_told}
+use Rattle.gaz_kept.proofs.NewestRows.{newest_stood, newest_told, newest_until_told}
 use Rattle.gaz_kept.proofs.Reached.{reached_room}
 
 module _ (db : Database) (c : ℕ) (k : Key) (life : Option Life) (kept : IsKept db) where
@@ -45,6 +46,13 @@ pub newest_of : (db : Database) (c : ℕ) (k : Key) (kind : Kind) (id : List ℕ
 newest_of db c k kind id rows life kept known is_kind is_id found says =
     newest_told c k (rows_of db version2) rows kept.rows known
     (subst (λ i. FindsNewest c (number_of (kind_in k)) i (rows_of db version2) rows) is_id (subst (λ q. FindsNewest c (number_of q) id (rows_of db version2) rows) is_kind found)) life says
+
+-- of which only what stands there was read
+pub stood_of_rows : (db : Database) (c : ℕ) (k : Key) (kind : Kind) (id : List ℕ) (rows : List Row) (stood : Stood) → IsKept db → is_key k ≡ true → kind ≡ kind_in k → id ≡ id_of k
+    → FindsNewest c (number_of kind) id (rows_of db version2) rows → SaysStood rows stood → (life : Option Life) × IsNewest (histories_in (rows_of db version2) c) k life × (stood ≡ stood_by life)
+stood_of_rows db c k kind id rows stood kept known is_kind is_id found says =
+    newest_stood c k (rows_of db version2) rows kept.rows known
+    (subst (λ i. FindsNewest c (number_of (kind_in k)) i (rows_of db version2) rows) is_id (subst (λ q. FindsNewest c (number_of q) id (rows_of db version2) rows) is_kind found)) stood says
 
 pub newest_until_of : (db : Database) (c volume : ℕ) (k : Key) (kind : Kind) (id : List ℕ) (rows : List Row) (life : Option Life) → IsKept db → is_key k ≡ true → kind ≡ kind_in k → id ≡ id_of k
     → FindsNewestUntil c (number_of kind) id volume (rows_of db version2) rows → SaysNewest k rows life → IsNewestUntil volume (histories_in (rows_of db version2) c) k life

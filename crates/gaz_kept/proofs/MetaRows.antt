@@ -17,14 +17,14 @@ use Rattle.sqlite.specs.declared.error.Error.{Error}
 use Rattle.sqlite.specs.declared.types.Value.TheVariants.{Int, Text}
 use Rattle.sqlite_rules.specs.Lists.{Has}
 use Rattle.sqlite_rules.proofs.ListLemmas.{some_from, some_has}
-use Rattle.std.proofs.lemmas.Bool.{and_from, and_parts, or_left}
+use Rattle.std.proofs.lemmas.Bool.{and_from, and_parts, cases_Bool, or_left, or_right}
 use Rattle.sqlite_schema.specs.Names.{same_name}
 use Rattle.sqlite_trees.specs.declared.store.Store.{Ghosts}
 use Rattle.gaz_tables.specs.Metas.{FindsTwo, meta_row, meta_shown, rows_text}
 use Rattle.gaz_tables.specs.Schema.{meta, received, version, version2}
 use Rattle.gaz_tables.specs.Tables.{AreThere, HasTable, rows_of}
 use Rattle.gaz_kept.specs.Numbered.{HasMeta, IsAnswer, IsJudged, IsNumbered, IsOne, IsTold}
-use Rattle.gaz_kept.specs.Opening.{CreateOpens, has_all, has_name, is_like, schema_number}
+use Rattle.gaz_kept.specs.Opening.{CreateOpens, has_all, has_any, has_name, is_like, schema_number}
 use Rattle.gaz_kept.specs.OpeningFirst.{has_first}
 use Rattle.gaz_kept.proofs.Rewritten.{alone}
 use Rattle.gaz_kept.specs.declared.refusal.StoreRefusal.{StoreRefusal}
@@ -51,6 +51,11 @@ all_found schema has = and_from _ _ (has_version2 schema has.versions) (and_from
 pub nothing_lacks : (schema : Schema) → AreThere schema → false ≡ has_all schema → ⊥
 nothing_lacks schema has lacks = let e : ◌≡◌ {A = Bool} false true = lacks ∙ all_found schema has in absurd (cc)
 
+-- and one has its name
+pub any_found : (schema : Schema) → AreThere schema → has_any schema ≡ true
+unfolding has_any same_name
+any_found schema has = or_right _ _ (or_left _ _ (or_left _ _ (some_from (λ t. same_name t.name (codes "version2")) schema.tables (table version2 schema has.versions) (listed version2 schema has.versions) refl)))
+
 -- no database has both
 pub not_both : (schema : Schema) → has_all schema ≡ true → has_first schema ≡ true → ⊥
 unfolding has_all has_first
@@ -67,6 +72,12 @@ not_both schema all first =
 
 pub not_store : (schema : Schema) → AreThere schema → has_first schema ≡ true → ⊥
 not_store schema has first = not_both schema (all_found schema has) first
+
+pub none_first : (schema : Schema) → AreThere schema → has_first schema ≡ false
+none_first schema has = elim (cases_Bool (has_first schema)) [
+  | inl is ↦ absurd (not_store schema has is)
+  | inr not ↦ not
+]
 
 -- ---- what is answered
 

@@ -13,12 +13,13 @@ use Rattle.gaz_records.specs.declared.key.Key.{Key}
 use Rattle.gaz_cells.specs.Columns.{CellsValue, cells_of}
 use Rattle.gaz_cells.specs.Ids.{id_of, is_key, kind_in}
 use Rattle.gaz_overlay.specs.Rows.{HistoryRow}
+use Rattle.gaz_overlay.specs.declared.touch.Stood.{Stood}
 use Rattle.gaz_tables.specs.Shows.{IsGreatest, ShowsGreatest}
 use Rattle.gaz_tables.specs.Versions as table
 use Rattle.gaz_tables.specs.Versions.{FindsNewest, FindsNewestUntil, IsOfKey, IsOfKeyUntil, born_place, life_shown}
 use Rattle.gaz_kept.specs.Histories.{AreVersions}
 use Rattle.gaz_kept.specs.Kept.{IsItemRow}
-use Rattle.gaz_kept.specs.Newest.{IsLatestOf, IsNewest, IsNewestUntil, SaysLife, SaysNewest, row_of}
+use Rattle.gaz_kept.specs.Newest.{IsLatestOf, IsNewest, IsNewestUntil, SaysLife, SaysNewest, SaysStood, row_of, stood_by, stood_of}
 use Rattle.gaz_kept.specs.Versions.{histories_in, history_in, living, number_in, text_in}
 use Rattle.gaz_kept.specs.declared.newest.Life.{Life}
 use Rattle.gaz_kept.proofs.RowsRead.{Born, IsBirthOf, Says, birth_of, born_as, fits, history_of, item_of, kind_row, read_from, read_in, some_same}
@@ -73,15 +74,31 @@ module _ (c : ℕ) (k : Key) (rows answer : List Row) (all : AreVersions rows) (
             omega (arith, ints, bound);
       }
 
+      -- the row as it is lived, whatever was read of its item
+      abbrev lived : Life
+      lived = record { born = number_in (table.born_of r); gone = number_in (table.gone_of r); item = (item_of r version).item }
+
+      whole : born.row ≡ living lived.born lived.gone lived.item
+      whole = some_same born.row (living lived.born lived.gone lived.item) born.is (history_of c r (item_of r version) (ap number_in (ours r greatest.fits).of_cust))
+
+      own : key_of lived.item ≡ k
+      own = sym (ap (λ (h : HistoryRow). h.key) whole) ∙ born.key
+
+      lived_so : row_of k lived ≡ born.row
+      lived_so = (λ i. record { key = sym own i; born = lived.born; gone = lived.gone; item = lived.item }) ∙ sym whole
+
       said_so : (life : Life) → SaysLife k (life_shown r) life → row_of k life ≡ born.row
       said_so life said =
-          let s = item_of r version in
-          let gone : life.gone ≡ number_in (table.gone_of r) = ap number_in (sym said.gone) in
-          let birth : life.born ≡ number_in (table.born_of r) = ap number_in (sym said.born) in
-          let whole = some_same born.row (living (number_in (table.born_of r)) (number_in (table.gone_of r)) s.item) born.is (history_of c r s (ap number_in (ours r greatest.fits).of_cust)) in
-          let own : key_of s.item ≡ k = sym (ap (λ (h : HistoryRow). h.key) whole) ∙ born.key in
-          let item : life.item ≡ s.item = same_item r s k own said.item.text life.item said.item.there said.item.body.read in
-          (λ i. record { key = sym own i; born = birth i; gone = gone i; item = item i }) ∙ sym whole
+          let birth : life.born ≡ lived.born = ap number_in (sym said.born) in
+          let gone : life.gone ≡ lived.gone = ap number_in (sym said.gone) in
+          let item : life.item ≡ lived.item = same_item r (item_of r version) k own said.item.text life.item said.item.there said.item.body.read in
+          (λ i. record { key = k; born = birth i; gone = gone i; item = item i }) ∙ lived_so
+
+      stands_so : (stood : Stood) → SaysStood (life_shown r ∷ []) stood → stood ≡ stood_by (Some lived)
+      stands_so stood says =
+          let birth : says.0 ≡ lived.born = ap number_in (sym says.2) in
+          let gone : says.1 ≡ lived.gone = ap number_in (sym says.3) in
+          says.4 ∙ (λ i. stood_of (birth i) (gone i))
 
     pub latest_told : ShowsGreatest Fits born_place life_shown rows answer → (life : Option Life) → SaysNewest k answer life → IsLatestOf Passes (histories_in rows c) k (option_map (row_of k) life)
     latest_told shows life says = by_answer answer shows life says
@@ -93,6 +110,20 @@ module _ (c : ℕ) (k : Key) (rows answer : List Row) (all : AreVersions rows) (
             let said = subst (λ r. SaysLife k r life) g.3 says in
             subst (λ h. IsLatestOf Passes (histories_in rows c) k (Some h)) (sym (said_so g.0 g.1 g.2 life said)) (latest g.0 g.1 g.2)
         by_answer (x ∷ y ∷ more) g life says = absurd g
+
+    -- what is read of the volumes alone
+    pub latest_stood : ShowsGreatest Fits born_place life_shown rows answer → (stood : Stood) → SaysStood answer stood → (life : Option Life) × IsLatestOf Passes (histories_in rows c) k (option_map (row_of k) life) × (stood ≡ stood_by life)
+    latest_stood shows stood says = by_answer answer shows says
+      where
+        by_answer : (answer : List Row) → ShowsGreatest Fits born_place life_shown rows answer → SaysStood answer stood → (life : Option Life) × IsLatestOf Passes (histories_in rows c) k (option_map (row_of k) life) × (stood ≡ stood_by life)
+        by_answer [] none says = (None, none_passes none, says)
+        by_answer (x ∷ []) g says =
+            let life = lived g.0 g.1 g.2 in
+            (Some life, subst (λ h. IsLatestOf Passes (histories_in rows c) k (Some h)) (sym (lived_so g.0 g.1 g.2)) (latest g.0 g.1 g.2), stands_so g.0 g.1 g.2 stood (subst (λ r. SaysStood (r ∷ []) stood) g.3 says))
+        by_answer (x ∷ y ∷ more) g says = absurd g
+
+  pub newest_stood : FindsNewest c (number_of (kind_in k)) (id_of k) rows answer → (stood : Stood) → SaysStood answer stood → (life : Option Life) × IsNewest (histories_in rows c) k life × (stood ≡ stood_by life)
+  newest_stood = latest_stood IsOurs (λ h. ⊤) (λ r fit. fit) (λ r h key birth passes. birth.of_key) (λ r h birth fit. tt)
 
   pub newest_told : FindsNewest c (number_of (kind_in k)) (id_of k) rows answer → (life : Option Life) → SaysNewest k answer life → IsNewest (histories_in rows c) k life
   newest_told = latest_told IsOurs (λ h. ⊤) (λ r fit. fit) (λ r h key birth passes. birth.of_key) (λ r h birth fit. tt)

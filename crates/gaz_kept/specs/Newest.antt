@@ -70,9 +70,18 @@ current_in None = None
 current_in (Some life) = if life.gone == never then Some life.item else None
 
 -- what stands at the key
+abbrev pub stood_of : (born gone : ℕ) → Stood
+stood_of born gone = if gone == never then Since born else Past
+
 abbrev pub stood_by : Option Life → Stood
 stood_by None = NoRow
-stood_by (Some life) = if life.gone == never then Since life.born else Past
+stood_by (Some life) = stood_of life.born life.gone
+
+-- the first row says so, whatever its item
+abbrev pub SaysStood : List Row → Stood → Type 0
+SaysStood [] stood = stood ≡ NoRow
+SaysStood (r ∷ rows) stood = (born : ℕ) × (gone : ℕ) × (column r 0 ≡ Int (pos born))
+    × (column r 1 ≡ Int (pos gone)) × (stood ≡ stood_of born gone)
 
 -- what stands at a key of a last view, and the item there
 pub record TellsStood (rows : List HistoryRow) (last : View) (k : Key) (stood : Stood)

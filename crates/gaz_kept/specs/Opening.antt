@@ -7,7 +7,7 @@ use Rattle.sqlite.specs.Effect.{Database}
 use Rattle.sqlite.specs.Held.{Held, state}
 use Rattle.sqlite.specs.Order.{Row}
 use Rattle.sqlite.specs.Schema.{Schema}
-use Rattle.sqlite.specs.State.{State, HasCleanDisk}
+use Rattle.sqlite.specs.State.{State, HasCleanDisk, Survives}
 use Rattle.sqlite.specs.Table.{Table}
 use Rattle.sqlite_schema.specs.Names.{same_name}
 use Rattle.sqlite_trees.specs.declared.store.Store.{Ghosts}
@@ -80,6 +80,11 @@ pub record Rests (old new : State) : Type 0 where
   pub was_open : IsTrue new.is_open → IsTrue old.is_open
   pub now : IsTrue new.is_open → new.now ≡ old.now
   pub committed : IsTrue new.is_open → new.committed ≡ old.committed
+
+-- nothing is changed, whatever the answer, and a stop leaves what it could before
+pub record Untouched {S : Type 0} (g : Ghosts S) (before after : Held S) : Type 0 where
+  pub rests : HasCleanDisk (state g after) → Rests (state g before) (state g after)
+  pub leaves : Survives (state g before) (state g after) (λ _. ⊥)
 
 -- outside a transaction it shows what was committed
 abbrev pub IsSettled : State → Type 0

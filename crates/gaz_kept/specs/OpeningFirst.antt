@@ -12,7 +12,7 @@ use Rattle.gaz_tables.specs.Migrating.{HasFirstTables, Migrates}
 use Rattle.gaz_tables.specs.Schema.{meta, received, version}
 use Rattle.gaz_tables.specs.Tables.{rows_of}
 use Rattle.gaz_kept.specs.Numbered as numbered
-use Rattle.gaz_kept.specs.Opening.{Rests, has_name, is_like, schema_number}
+use Rattle.gaz_kept.specs.Opening.{has_name, is_like, schema_number}
 use Rattle.gaz_kept.specs.declared.refusal.StoreRefusal.{StoreRefusal}
 
 -- each table of schema 1 is there and is understood, with its columns, and none of schema 2
@@ -33,11 +33,6 @@ IsOfFirst = numbered.IsOf first_number
 -- what is told of the rows of `meta`, for a register
 abbrev pub IsJudgedFirst : List ℕ → List Row → Result (Unit {0}) StoreRefusal → Type 0
 IsJudgedFirst = numbered.IsJudged first_number
-
--- nothing is changed, whatever the answer, and a stop leaves what it could before
-pub record Untouched {S : Type 0} (g : Ghosts S) (before after : Held S) : Type 0 where
-  pub rests : HasCleanDisk (state g after) → Rests (state g before) (state g after)
-  pub leaves : Survives (state g before) (state g after) (λ _. ⊥)
 
 -- a call on a connection, whose state `g` shows
 module _ {S : Type 0} (g : Ghosts S) (before after : Held S)

@@ -3,9 +3,8 @@ ghost use Rattle.std.specs.Prelude.{◌≡◌, false, true, Err, IfErr, OnOk};
 ghost use Rattle.sqlite.specs.Held.{state};
 ghost use Rattle.gaz_register.specs.Texts.{register_text};
 ghost use Rattle.gaz_sql_facts.specs.Changes.{LeavesTheCommit};
-ghost use Rattle.gaz_kept.specs.Opening.{IsOpen, Judges, RestsRefused, Tells, has_all};
-ghost use Rattle.gaz_kept.specs.OpeningFirst.{JudgesFirst, MayMove, Moves, TellsFirst};
-ghost use Rattle.gaz_kept.specs.OpeningFirst.{Untouched, has_first};
+ghost use Rattle.gaz_kept.specs.Opening.{IsOpen, Judges, RestsRefused, Tells, Untouched, has_all};
+ghost use Rattle.gaz_kept.specs.OpeningFirst.{JudgesFirst, MayMove, Moves, TellsFirst, has_first};
 
 use crate::naming::has_first;
 use crate::opening::{NUMBER, check, compared, known};

@@ -1,6 +1,7 @@
 //! The row of a key that was born last.
 ghost use Rattle.std.specs.Prelude.{◌≡◌, IfOk};
-ghost use Rattle.gaz_kept.specs.Newest.{SaysLife, SaysNewest, current_in, item_after, stood_by};
+ghost use Rattle.gaz_kept.specs.Newest.{SaysLife, SaysNewest, SaysStood, current_in, item_after};
+ghost use Rattle.gaz_kept.specs.Newest.{stood_by, stood_of};
 
 use crate::decoding::{RowFault, item_in, number};
 use gaz_overlay::Stood;
@@ -62,13 +63,35 @@ pub fn current_in(life: Option<Life>) -> Option<SharedItem>
     }
 }
 
+// What stands at a key whose newest row is of these volumes.
+fn stood_of(born: u64, gone: u64) -> Stood
+    ensures { result ≡ stood_of born gone }
+{
+    if gone == NEVER {
+        Stood::Since(born)
+    } else {
+        Stood::Past
+    }
+}
+
 /// What stands at the key.
 pub fn stood_by(life: &Option<Life>) -> Stood
     ensures { result ≡ stood_by life.now }
 {
     match life {
         None => Stood::NoRow,
-        Some(life) if life.gone == NEVER => Stood::Since(life.born),
-        Some(_) => Stood::Past,
+        Some(life) => stood_of(life.born, life.gone),
     }
+}
+
+/// What stands at the key of which the first row is the newest; its item isn't read.
+pub fn stood_said(rows: &[Row]) -> Result<Stood, RowFault>
+    ensures { IfOk result (SaysStood rows.now) }
+{
+    let Some(row) = rows.first() else {
+        return Ok(Stood::NoRow);
+    };
+    let born = number(row, 0)?;
+    let gone = number(row, 1)?;
+    Ok(stood_of(born, gone))
 }

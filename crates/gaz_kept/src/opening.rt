@@ -10,7 +10,7 @@ ghost use Rattle.gaz_tables.specs.Creating.{MayCreate};
 ghost use Rattle.gaz_kept.specs.Numbered.{FindsMeta, IsAnswer, IsTold, JudgesMeta, JudgesRead};
 ghost use Rattle.gaz_kept.specs.Numbered.{TellsRows, ToldRows};
 ghost use Rattle.gaz_kept.specs.Opening.{IsOpen, IsSettled, Judges, Makes, Rests};
-ghost use Rattle.gaz_kept.specs.Opening.{RestsRefused, Tells, TellsWhether, WasOpen};
+ghost use Rattle.gaz_kept.specs.Opening.{RestsRefused, Tells, TellsWhether, Untouched, WasOpen};
 ghost use Rattle.gaz_kept.specs.Opening.{has_all, has_any, schema_number};
 ghost use Rattle.gaz_register.specs.Texts.{register_text};
 
@@ -135,8 +135,8 @@ pub(crate) fn compared<S: Alter>(
 
 /// Makes the tables of a new store for a register.
 ///
-/// `BadSchema` where a table named as one of a store's is there; `Fault` where memory or the
-/// database failed. After a refusal the database holds what it held.
+/// `BadSchema` where a table named as one of a store's is there: nothing is written then. `Fault`
+/// where memory or the database failed. After a refusal the database holds what it held.
 pub fn create<S: Alter>(
     alloc: Global,
     conn: &mut Connection<S>,
@@ -152,6 +152,8 @@ pub fn create<S: Alter>(
     ensures rests { RestsRefused S.Store conn.old conn.new result }
     ensures leaves { MayCreate S.Store conn.old conn.new schema_number
         (register_text register.now) }
+    ensures untouched { IsTrue (has_any (state S.Store conn.old).now.schema)
+        → Untouched S.Store conn.old conn.new }
     ensures certain { OnOk result (LeavesTheCommit (state S.Store conn.new)) }
 {
     if has_any(conn.schema()) {

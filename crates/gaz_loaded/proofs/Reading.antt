@@ -1,18 +1,10 @@
 -- Calls that only read, one after another.
 use Rattle.std.proofs.Common.{◌≡◌, arith, refl, ◌∙◌}
 use Rattle.std.specs.Prelude.{◌≢◌, Result}
-use Rattle.gaz_keeper.specs.Keeper.{Broken, Idle, IsLeft, IsNotOpen, Keeps, Open, Progress, Reads, Seen}
+use Rattle.gaz_keeper.specs.Keeper.{Broken, Idle, IsLeft, IsNotOpen, Open, Progress, Reads, Seen}
 use Rattle.gaz_keeper.specs.declared.fault.ShelfFault.{ShelfFault}
-use Rattle.gaz_keeper.proofs.Keeping.{keeps_then}
+use Rattle.gaz_keeper.proofs.Keeping.{keeps_itself, keeps_then}
 use Rattle.gaz_loaded.specs.Files.{OnlyReads}
-
-left_itself : (p : Progress) → IsLeft p p
-left_itself Idle = refl
-left_itself (Open c) = refl
-left_itself Broken = λ c e. cc
-
-keeps_itself : (a : Seen) → Keeps a a
-keeps_itself a = record { harm = λ fine. fine; stands = λ stood _. stood; content = λ _ _. refl; progress = left_itself a.progress; leaves = λ _ k left. left; whole = λ _ whole. whole }
 
 pub reads_nothing : (a : Seen) → OnlyReads a a
 reads_nothing a = record { keeps = keeps_itself a; failures = omega arith; trust = λ t. t }

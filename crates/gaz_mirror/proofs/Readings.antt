@@ -3,7 +3,7 @@ use Rattle.std.proofs.Common.{◌≡◌, ◌≢◌, ◌≤◌, ◌∙◌, ℕ, I
 use Rattle.gaz_views.specs.View.{View}
 use Rattle.gaz_keeper.specs.Keeper.{Broken, Content, Idle, IsLeft, IsNotOpen, Keeps, Open, Progress, Reads, Seen, after_stop, view_of, viewed, with_working}
 use Rattle.gaz_keeper.specs.declared.fault.ShelfFault.{ShelfFault}
-use Rattle.gaz_keeper.proofs.Keeping.{keeps_then}
+use Rattle.gaz_keeper.proofs.Keeping.{keeps_itself, keeps_then}
 use Rattle.gaz_mirror.specs.InStep.{IsAhead, IsInStep}
 use Rattle.gaz_mirror.specs.Mirroring.{StandsWith, mirrored, stands_below}
 use Rattle.gaz_mirror.specs.declared.gathered.Gathered.{Gathered}
@@ -14,14 +14,6 @@ pub left_same : (p q : Progress) → p ≢ Broken → IsLeft p q → q ≡ p
 left_same Idle q whole left = left
 left_same (Open c) q whole left = left
 left_same Broken q whole left = absurd (whole refl)
-
-left_alone : (p : Progress) → IsLeft p p
-left_alone Idle = refl
-left_alone (Open c) = refl
-left_alone Broken = λ c is. cc
-
-pub keeps_all : (s : Seen) → Keeps s s
-keeps_all s = record { harm = λ fine. fine; stands = λ stood _. stood; content = λ _ _. refl; progress = left_alone s.progress; leaves = λ _ k l. l; whole = λ _ all. all }
 
 -- the views are then the same
 views_left : (p q : Progress) (k : Content) (c : ℕ) → IsLeft p q → viewed q k c ≡ viewed p k c
@@ -41,7 +33,7 @@ keeps_above seen sole below u v None keeps = record {
   harm = λ fine. fine;
   stands = λ stood _. record { lower = stood.lower; upper = keeps.stands stood.upper (sole v); same = keeps.content stood.upper (sole v) ∙ stood.same };
   content = λ _ _. refl;
-  progress = left_alone below.progress;
+  progress = (keeps_itself below).progress;
   leaves = λ _ k l. l;
   whole = λ _ all. all;
 }

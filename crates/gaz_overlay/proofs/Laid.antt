@@ -18,7 +18,7 @@ use Rattle.gaz_records.specs.declared.item.Item.TheVariants as item
 use Rattle.gaz_records.specs.declared.key.Key.{Key}
 use Rattle.gaz_records.specs.declared.key.Key.TheVariants as key
 use Rattle.gaz_views.proofs.Emptiness.{no_custody, used_none}
-use Rattle.gaz_views.proofs.Lawful.{lawful_empty, lawful_put, lawful_taken}
+use Rattle.gaz_views.proofs.Lawful.{lawful_empty, lawful_put, lawful_released, lawful_taken}
 use Rattle.gaz_views.proofs.SameKeys.{same_key}
 use Rattle.gaz_views.specs.Lawful.{IsLawfulView}
 use Rattle.gaz_views.specs.View.{View, custody_at, empty_view, holds, was_used, with_adoption, with_item, with_release, without_key}
@@ -261,20 +261,6 @@ lawful_laid v s last lawful = record { entries = entries; keyed = keyed; used = 
         by_use false is = ap (λ b. b || false) (last.used k is)
 
 -- ---- a number is passed on
-
-pub lawful_released : (s : View) (n to hop : ℕ) → IsLawfulView s → IsLawfulView (with_release s n to hop)
-lawful_released s n to hop was =
-    let left = lawful_taken s (key.Blpu n) was in
-    record {
-      entries = left.entries;
-      keyed = left.keyed;
-      used = λ k there. set.contains-insert keys_total s.used (key.Blpu n) k ∙ ap (λ b. tie k (key.Blpu n) || b) (left.used k there) ∙ or_right (tie k (key.Blpu n));
-    }
-
-pub lawful_adopted : (s : View) (b : BlpuValue) (from hop : ℕ) → IsLawfulView s → IsLawfulView (with_adoption s b from hop)
-lawful_adopted s b from hop was =
-    let set = lawful_put s (item.Blpu b) refl was in
-    record { entries = set.entries; keyed = set.keyed; used = set.used }
 
 pub released : (v s : View) → IsLawfulView s → (n to hop : ℕ) → with_release (laid v s) n to hop ≡ laid v (with_release s n to hop)
 released v s lawful n to hop =

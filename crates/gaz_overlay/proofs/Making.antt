@@ -2,25 +2,29 @@
 use Rattle.std.proofs.Common.{◌≡◌, ◌∙◌, ◌||◌, Bool, true, false, cond, sym, ap, refl, subst, is_some, true≢false}
 use Rattle.std.specs.Prelude.{Option, Some, None, option_map}
 use Rattle.std.specs.FinMap as finite
+use Rattle.std.specs.FinSet as set
 use Rattle.std.specs.Option.{option_map_or}
 use Rattle.std.specs.Ordering.{nat_cmp}
+use Rattle.gaz_records.proofs.KeyOrder.{keys_total}
 use Rattle.gaz_records.specs.Items.{is_entry}
 use Rattle.gaz_records.specs.Keys.{key_cmp, key_of}
 use Rattle.gaz_records.specs.declared.item.Item.{Item}
 use Rattle.gaz_records.specs.declared.key.Key.{Key}
 use Rattle.gaz_views.proofs.Emptiness.{no_custody, used_none}
 use Rattle.gaz_views.proofs.Lawful.{lawful_empty}
+use Rattle.gaz_views.specs.Lawful.{IsLawfulView}
 use Rattle.gaz_views.specs.View.{View, custody_at, was_used, with_adoption, with_item, with_release, without_key}
-use Rattle.gaz_overlay.specs.Changes.{Changes, is_passed_key, is_touched, no_changes, stood_in, was_there, was_used_in}
+use Rattle.gaz_overlay.specs.Changes.{Changes, is_passed_key, is_touched, no_changes, stood_in, was_there, was_used_in, with_put, with_put_first, with_touched}
 use Rattle.gaz_overlay.specs.Laid.{laid}
 use Rattle.gaz_overlay.specs.Making.{ChangesMake}
-use Rattle.gaz_overlay.specs.Over.{IsLast, IsStood, LieOver, key_view}
+use Rattle.gaz_overlay.specs.Over.{IsLast, IsStood, LieOver, Make, key_view}
 use Rattle.gaz_overlay.specs.Writings.{writing_at, writing_of}
 use Rattle.gaz_overlay.specs.declared.touch.NewRow.{NewRow}
 use Rattle.gaz_overlay.specs.declared.touch.Stood.{Stood}
 use Rattle.gaz_overlay.specs.declared.touch.Stood.TheVariants.{NoRow, Past, Since}
 use Rattle.gaz_overlay.specs.declared.touch.Touch.{Touch}
-use Rattle.gaz_overlay.proofs.Laid.{adopted, at_key, custody_laid_is, nothing, put, released, taken, used_at}
+use Rattle.gaz_overlay.proofs.Kept.{noted_there}
+use Rattle.gaz_overlay.proofs.Laid.{adopted, at_key, custody_laid_is, nothing, put, released, same_view, taken, tie, used_at}
 use Rattle.gaz_overlay.proofs.Touching.{none_there, put_over, taken_over, touched_laid, touched_over, unused}
 use Rattle.gaz_overlay.proofs.NumbersPassed.{adopted_over, released_over}
 
@@ -98,6 +102,33 @@ own_row v c over k r is = by_touch (finite.get c.touched k) refl is
     by_touch None there h = let none : None ≡ Some r = h in cc
     by_touch (Some t) there h = by_last t there (is_some (finite.get c.view.items k)) t.last refl h
 
+-- ---- what is put hides what stood there
+
+hidden : (v : View) (was i : Item) → key_of was ≡ key_of i → with_item (with_item v was) i ≡ with_item v i
+hidden v was i same = same_view _ _ refl
+    (λ q. finite.get-insert keys_total (with_item v was).items k i q ∙ by_tie (tie q k) (finite.get v.items q) (finite.get-insert keys_total v.items (key_of was) was q ∙ ap (λ p. cond (tie q p) (Some was) (finite.get v.items q)) same)
+    ∙ sym (finite.get-insert keys_total v.items k i q))
+    (λ q. set.contains-insert keys_total (with_item v was).used k q ∙ by_use (tie q k) (was_used v q) (set.contains-insert keys_total v.used (key_of was) q ∙ ap (λ p. tie q p || was_used v q) same)
+    ∙ sym (set.contains-insert keys_total v.used k q))
+  where
+    k : Key
+    k = key_of i
+
+    by_tie : (t : Bool) (o : Option Item) {w : Option Item} → w ≡ cond t (Some was) o → cond t (Some i) w ≡ cond t (Some i) o
+    by_tie true o e = refl
+    by_tie false o e = e
+
+    by_use : (t u : Bool) {w : Bool} → w ≡ (t || u) → (t || w) ≡ (t || u)
+    by_use true u e = refl
+    by_use false u e = e
+
+put_over_any : (v : View) (c : Changes) (w : View) → IsLawfulView v → (i : Item) (stood : Stood) (o : Option Item) → finite.get v.items (key_of i) ≡ o
+    → Make v (with_put (with_touched c (key_of i) stood o) i) w → Make v (with_put_first c stood i) w
+put_over_any v c w last i stood None there makes = makes
+put_over_any v c w last i stood (Some was) there makes =
+    let d = with_put_first c stood i in
+    subst (λ (s : View). Make v (record { view = s; touched = d.touched; passed = d.passed }) w) (hidden c.view was i (last.keyed (key_of i) was there)) makes
+
 -- ---- all together
 
 nothing_over : (v : View) → LieOver v no_changes
@@ -112,13 +143,21 @@ nothing_over v = record {
   };
 }
 
+touched_made : (v : View) (c : Changes) (w : View) → IsLawfulView v → Make v c w → (k : Key) (stood : Stood) → is_touched c k ≡ false → IsStood stood (key_view v k) → Make v (with_touched c k stood (finite.get v.items k)) w
+touched_made v c w last made k stood fresh so = record { over = touched_over v c last made.over k stood fresh so (finite.get v.items k) refl; is_laid = made.is_laid ∙ touched_laid v c last made.over k stood fresh so }
+
+put_made : (v : View) (c : Changes) (w : View) → Make v c w → (i : Item) → is_entry i ≡ true → is_touched c (key_of i) ≡ true → Make v (with_put c i) (with_item w i)
+put_made v c w made i entry noted = record { over = put_over v c made.over i entry noted; is_laid = ap (λ (u : View). with_item u i) made.is_laid ∙ put v c.view made.over.lawful i entry }
+
 pub changes_make : ChangesMake
 changes_make = record {
   nothing = λ v. record { over = nothing_over v; is_laid = sym (nothing v) };
-  touched = λ v c w last made k stood fresh so.
-      record { over = touched_over v c last made.over k stood fresh so (finite.get v.items k) refl; is_laid = made.is_laid ∙ touched_laid v c last made.over k stood fresh so };
-  put = λ v c w made i entry noted.
-      record { over = put_over v c made.over i entry noted; is_laid = ap (λ (u : View). with_item u i) made.is_laid ∙ put v c.view made.over.lawful i entry };
+  touched = touched_made;
+  put = put_made;
+  put_first = λ v c w last made i stood entry fresh so.
+      let k = key_of i in
+      let there = finite.get v.items k in
+      put_over_any v c (with_item w i) last i stood there refl (put_made v (with_touched c k stood there) w (touched_made v c w last made k stood fresh so) i entry (noted_there c.touched k (record { stood = stood; last = None })));
   taken = λ v c w made k noted.
       record { over = taken_over v c made.over k; is_laid = ap (λ (u : View). without_key u k) made.is_laid ∙ taken v c.view made.over.lawful k (none_there v c made.over k noted) };
   released = λ v c w made n to hop since noted so.

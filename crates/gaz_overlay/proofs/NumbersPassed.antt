@@ -19,7 +19,8 @@ use Rattle.gaz_overlay.specs.Changes.{Changes, Passed, Touched, is_passed, is_pa
 use Rattle.gaz_overlay.specs.Making.{IsSince}
 use Rattle.gaz_overlay.specs.Over.{ArePassed, IsLast, IsTouch, KeyView, LieOver, key_view}
 use Rattle.gaz_overlay.specs.declared.touch.Touch.{Touch}
-use Rattle.gaz_overlay.proofs.Laid.{Passings, lawful_adopted, lawful_released, tie}
+use Rattle.gaz_overlay.proofs.Laid.{Passings, tie}
+use Rattle.gaz_views.proofs.Lawful.{lawful_adopted, lawful_released}
 use Rattle.gaz_overlay.proofs.Touching.{item_else, item_here, one_number, over_then, stood_so, tied_numbers}
 
 -- ---- a number is passed on

@@ -70,6 +70,10 @@ with_put c i = record c {
   });
 }
 
+-- an item is put at its key, which is touched with that, whatever item stood there
+abbrev pub with_put_first : Changes → Stood → Item → Changes
+with_put_first c stood i = with_put (with_touched c (key_of i) stood None) i
+
 -- the item of a touched key is taken
 abbrev pub with_taken : Changes → Key → Changes
 with_taken c k = record c { view = without_key c.view k }

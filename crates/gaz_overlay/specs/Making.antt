@@ -11,8 +11,8 @@ use Rattle.gaz_views.specs.Lawful.{IsLawfulView}
 use Rattle.gaz_views.specs.View.{View, custody_at, was_used, with_adoption, with_item, with_release}
 use Rattle.gaz_views.specs.View.{without_key}
 use Rattle.gaz_overlay.specs.Changes.{Changes, is_passed, is_touched, no_changes, was_used_in}
-use Rattle.gaz_overlay.specs.Changes.{with_adopted_blpu, with_put, with_released, with_taken}
-use Rattle.gaz_overlay.specs.Changes.{with_touched}
+use Rattle.gaz_overlay.specs.Changes.{with_adopted_blpu, with_put, with_put_first, with_released}
+use Rattle.gaz_overlay.specs.Changes.{with_taken, with_touched}
 use Rattle.gaz_overlay.specs.Laws.{custody_laid_at}
 use Rattle.gaz_overlay.specs.Over.{IsStood, Make, key_view}
 use Rattle.gaz_overlay.specs.Writings.{writing_at}
@@ -35,6 +35,10 @@ pub record ChangesMake : Type 0 where
   -- to put and to take, to release and to adopt do just that
   pub put : (v : View) (c : Changes) (w : View) → Make v c w → (i : Item) → is_entry i ≡ true
       → is_touched c (key_of i) ≡ true → Make v (with_put c i) (with_item w i)
+  -- also where the key is touched so
+  pub put_first : (v : View) (c : Changes) (w : View) → IsLawfulView v → Make v c w → (i : Item)
+      → (stood : Stood) → is_entry i ≡ true → is_touched c (key_of i) ≡ false
+      → IsStood stood (key_view v (key_of i)) → Make v (with_put_first c stood i) (with_item w i)
   pub taken : (v : View) (c : Changes) (w : View) → Make v c w → (k : Key) → is_touched c k ≡ true
       → Make v (with_taken c k) (without_key w k)
   pub released : (v : View) (c : Changes) (w : View) → Make v c w → (uprn to hop : ℕ)

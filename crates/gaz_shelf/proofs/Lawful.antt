@@ -2,11 +2,10 @@
 use Rattle.std.proofs.Common.{◌≡◌, ◌∙◌, ◌||◌, refl, ℕ, zero, suc, Bool, true, false, cond, List, [], ◌∷◌, ◌++◌, map, length, sym, ap, subst, slice_get, unwrap_or}
 use Rattle.std.specs.Prelude.{◌==◌, Some, Result, Ok, Err, OnOk, OnErr}
 use Rattle.std.specs.BTreeMap.{BTreeMap, Updates, is_at}
-use Rattle.std.specs.FinSet as set
 use Rattle.std.specs.Map.{lookup}
 use Rattle.std.specs.Option.{IsSome}
 use Rattle.std.specs.Ordering.{eq_by_cmp, nat_cmp}
-use Rattle.gaz_views.proofs.Lawful.{lawful_empty, lawful_put, lawful_taken}
+use Rattle.gaz_views.proofs.Lawful.{lawful_adopted, lawful_empty, lawful_put, lawful_released, lawful_taken}
 use Rattle.gaz_views.specs.Judgements.{Judgement}
 use Rattle.gaz_views.specs.Lawful.{IsLawfulView}
 use Rattle.gaz_views.specs.Accounts.{Account, empty_account, last_of}
@@ -14,11 +13,8 @@ use Rattle.gaz_views.specs.View.{View, empty_view, with_item, with_release, with
 use Rattle.gaz_views.specs.declared.verdict.Verdict.{Verdict}
 use Rattle.gaz_views.specs.Numbered.{as_blpu}
 use Rattle.gaz_ledger.specs.Adopting.{with_adopted}
-use Rattle.gaz_records.proofs.KeyOrder.{keys_total}
 use Rattle.gaz_records.specs.Items.{is_entry}
-use Rattle.gaz_records.specs.Keys.{key_cmp}
 use Rattle.gaz_records.specs.declared.item.Item.TheVariants as item
-use Rattle.gaz_records.specs.declared.key.Key.TheVariants.{Blpu}
 use Rattle.gaz_records.specs.declared.item.Item.{Item}
 use Rattle.gaz_records.specs.declared.key.Key.{Key}
 use Rattle.gaz_shelf.proofs.Boards.{Changes, changed}
@@ -39,21 +35,8 @@ put_lawful a i entry was = working_lawful a _ was (lawful_put a.working i entry 
 taken_lawful : (a : Account) (k : Key) → IsLawfulAccount a → IsLawfulAccount (record { judged = a.judged; working = without_key a.working k })
 taken_lawful a k was = working_lawful a _ was (lawful_taken a.working k was.working)
 
-either_true : (a b : Bool) → b ≡ true → (a || b) ≡ true
-either_true true b is = refl
-either_true false b is = is
-
-released_view : (v : View) (uprn to hop : ℕ) → IsLawfulView v → IsLawfulView (with_release v uprn to hop)
-released_view v uprn to hop was =
-    let taken = lawful_taken v (Blpu uprn) was in
-    record {
-      entries = taken.entries;
-      keyed = taken.keyed;
-      used = λ k there. set.contains-insert keys_total v.used (Blpu uprn) k ∙ either_true (eq_by_cmp key_cmp k (Blpu uprn)) (set.contains v.used k) (taken.used k there);
-    }
-
 adopted_view : (v : View) (i : Item) (from hop : ℕ) → IsSome (as_blpu i) → IsLawfulView v → IsLawfulView (with_adopted v i from hop)
-adopted_view v (item.Blpu b) from hop some was = let put = lawful_put v (item.Blpu b) refl was in record { entries = put.entries; keyed = put.keyed; used = put.used }
+adopted_view v (item.Blpu b) from hop some was = lawful_adopted v b from hop was
 adopted_view v (item.Street x) from hop some was = was
 adopted_view v (item.Descriptor x) from hop some was = was
 adopted_view v (item.Xref x) from hop some was = was
@@ -96,7 +79,7 @@ pub after_take : {T E : Type 0} (r : Result T E) (a b : Account) (k : Key) → I
 after_take r a b k was ok err = after_call r a b _ ok err was (taken_lawful a k was)
 
 pub after_release : {T E : Type 0} (r : Result T E) (a b : Account) (uprn to hop : ℕ) → IsLawfulAccount a → OnOk r (b ≡ record { judged = a.judged; working = with_release a.working uprn to hop }) → OnErr r (b ≡ a) → IsLawfulAccount b
-after_release r a b uprn to hop was ok err = after_call r a b _ ok err was (working_lawful a _ was (released_view a.working uprn to hop was.working))
+after_release r a b uprn to hop was ok err = after_call r a b _ ok err was (working_lawful a _ was (lawful_released a.working uprn to hop was.working))
 
 pub after_adopt : {T E : Type 0} (r : Result T E) (a b : Account) (i : Item) (from hop : ℕ) → IsSome (as_blpu i) → IsLawfulAccount a → OnOk r (b ≡ record { judged = a.judged; working = with_adopted a.working i from hop }) → OnErr r (b ≡ a) → IsLawfulAccount b
 after_adopt r a b i from hop some was ok err = after_call r a b _ ok err was (working_lawful a _ was (adopted_view a.working i from hop some was.working))

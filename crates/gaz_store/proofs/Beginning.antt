@@ -1,5 +1,5 @@
 -- A store that was made, one that was opened, and one that was made of the tables of schema 1.
-use Rattle.std.proofs.Common.{◌≡◌, ◌∙◌, ℕ, List, sym, ap, subst, refl}
+use Rattle.std.proofs.Common.{◌≡◌, ◌∙◌, ℕ, IsTrue, List, sym, ap, subst, refl}
 use Rattle.sqlite.specs.Effect.{Database}
 use Rattle.sqlite.specs.Order.{Row}
 use Rattle.sqlite.specs.State.{HasCleanDisk, State, Survives}
@@ -33,11 +33,12 @@ module _ (new : State) (a : Remembered) (so : (files : List Row) → AreSo a fil
   standing register kept whose = record { tables = record { kept = kept; whose = whose; so = so (rows_of new.now received); lawful = content_lawful new.now kept empty_view lawful_empty }; beside = tt }
 
   pub is_made : (old : State) (register : List ℕ) (f : ℕ) → f ≡ 0
-      → (HasCleanDisk new → HasRoom old.now.schema → IsNewStore schema_number register old.now new.now × (new.committed ≡ new.now)) → LeavesTheCommit new
+      → (HasCleanDisk new → IsTrue new.is_open) → (HasCleanDisk new → HasRoom old.now.schema → IsNewStore schema_number register old.now new.now × (new.committed ≡ new.now)) → LeavesTheCommit new
       → IsMade old new register (seen_beside register new a Idle f)
-  is_made old register f none made certain = record {
+  is_made old register f none opened made certain = record {
     idle = refl;
     failures = none;
+    is_open = opened;
     stands = λ h room. standing register (tables_stand.create schema_number register old.now new.now (made h.clean room).0).kept (create_opens register old.now new.now (made h.clean room).0);
     content = λ h room. (tables_stand.create schema_number register old.now new.now (made h.clean room).0).content;
     leaves = λ h room k l.

@@ -19,7 +19,7 @@ use Rattle.gaz_views.specs.View.{View, custody_at, with_release}
 use Rattle.gaz_views.specs.declared.custody.Custody.{Custody}
 use Rattle.gaz_overlay.specs.Changes.{Passed, is_passed, is_touched, noted, with_adopted, with_released}
 use Rattle.gaz_overlay.specs.Laws.{custody_laid_at}
-use Rattle.gaz_overlay.proofs.Laid.{lawful_adopted}
+use Rattle.gaz_views.proofs.Lawful.{lawful_adopted}
 use Rattle.gaz_overlay.proofs.Making.{changes_make}
 use Rattle.gaz_overlay.proofs.PassedTree.{noted_already, noted_first}
 use Rattle.gaz_tables.specs.Schema.{version2}

@@ -1,5 +1,5 @@
 -- A store that was made, one that was opened, and what is handed back where there is none.
-use Rattle.std.specs.Prelude.{◌≡◌, false, ℕ, List, Result, Ok, Err}
+use Rattle.std.specs.Prelude.{◌≡◌, false, ℕ, List, Result, Ok, Err, IsTrue}
 use Rattle.sqlite.specs.Held.{Held, state}
 use Rattle.sqlite.specs.State.{State, HasCleanDisk, Survives}
 use Rattle.sqlite_trees.specs.declared.store.Store.{Ghosts}
@@ -7,6 +7,7 @@ use Rattle.gaz_views.specs.View.{empty_view}
 use Rattle.gaz_keeper.specs.Keeper.{Idle, LeavesOnly, Seen, empty_content}
 use Rattle.gaz_tables.specs.Creating.{HasRoom, KeepsEach}
 use Rattle.gaz_tables.specs.Schema.{meta}
+use Rattle.gaz_tables.specs.Stores.{HasTables}
 use Rattle.gaz_tables.specs.Tables.{rows_of}
 use Rattle.gaz_kept.specs.Contents.{content_in}
 use Rattle.gaz_kept.specs.Kept.{IsKept}
@@ -15,11 +16,13 @@ use Rattle.gaz_kept.specs.declared.refusal.StoreRefusal.{StoreRefusal}
 use Rattle.gaz_store.specs.Seen.{LeavesKept}
 use Rattle.gaz_store.specs.declared.store.Store.{Store}
 
--- of a database that has room, as a store of this register: nothing is received or judged, a stop
--- leaves just that, and each table that was there is there still, with the rows it had
+-- of a database that has room, as a store of this register, over an open connection: nothing is
+-- received or judged, a stop leaves just that, and each table that was there is there still, with
+-- the rows it had
 pub record IsMade (old new : State) (register : List ℕ) (now : Seen) : Type 0 where
   pub idle : now.progress ≡ Idle
   pub failures : now.failures ≡ 0
+  pub is_open : HasCleanDisk new → IsTrue new.is_open
   pub stands : now.unharmed → HasRoom old.now.schema → now.stands
   pub content : now.unharmed → HasRoom old.now.schema → now.content ≡ empty_content
   pub leaves : now.unharmed → HasRoom old.now.schema → LeavesOnly empty_content now
@@ -40,10 +43,13 @@ pub record IsOpened (old new : State) (register : List ℕ) (now : Seen) : Type 
   pub leaves : Survives old new (λ _. ⊥)
   pub whole : LeavesKept register old → now.whole
 
--- a connection that was handed back is outside a transaction, over what was there
+-- a connection that was handed back is outside a transaction, over what was there; and of a store
+-- that was there a stop leaves what it could before
 pub record IsRefused {S : Type 0} (g : Ghosts S) (before after : Held S) : Type 0 where
   pub over : after.in_transaction ≡ false
   pub rests : HasCleanDisk (state g after) → Rests (state g before) (state g after)
+  pub leaves : HasTables (state g before).now
+      → Survives (state g before) (state g after) (λ _. ⊥)
 
 -- ---- what is answered, of a call that takes a connection and gives a store or hands it back
 

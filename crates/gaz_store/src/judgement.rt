@@ -102,6 +102,27 @@ impl Judgement {
         self.touch_first(tables, key)
     }
 
+    // Sets an item, an entry, at a key that isn't touched yet: the one that stood there isn't read.
+    fn put_first<S: Alter>(
+        &mut self,
+        tables: &mut Tables<S>,
+        key: &Key,
+        item: SharedItem,
+    ) -> Result<(), ShelfFault>
+        requires own { key.now ≡ key_of item }
+        requires fresh { is_touched self.old.changes (key_of item) ≡ false }
+        requires entry { is_entry item ≡ true }
+        ensures asks { AsksTables tables.old tables.new result
+            (λ db _. Turns db self.old self.new (λ w. with_item w item)) }
+        ensures code { self.new.code ≡ self.old.code }
+    {
+        let stood = tables.stands(self.code, key)?;
+        match self.changes.put_first(stood, item) {
+            Ok(()) => Ok(()),
+            Err(_) => Err(ShelfFault::Memory),
+        }
+    }
+
     /// Sets an item, an entry.
     pub(crate) fn put<S: Alter>(
         &mut self,
@@ -114,7 +135,9 @@ impl Judgement {
         ensures code { self.new.code ≡ self.old.code }
     {
         let key = key_of(&item);
-        self.touch(tables, &key)?;
+        if !self.changes.is_touched(&key) {
+            return self.put_first(tables, &key, item);
+        }
         match self.changes.put(item) {
             Ok(()) => Ok(()),
             Err(_) => Err(ShelfFault::Memory),

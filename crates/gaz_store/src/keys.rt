@@ -18,7 +18,7 @@ use crate::tables::Tables;
 use gaz_ids::{Code, LAST_VOLUME};
 use gaz_keeper::ShelfFault;
 use gaz_kept::decoding::{kind_in, name_of};
-use gaz_kept::newest::{Life, current_in, item_after, newest_said, stood_by};
+use gaz_kept::newest::{Life, current_in, item_after, newest_said, stood_by, stood_said};
 use gaz_kept::passages::Passed;
 use gaz_overlay::Stood;
 use gaz_records::{Key, Kind, SharedItem};
@@ -158,6 +158,24 @@ impl<S: Alter> Tables<S> {
     {
         let life = self.newest(code, key)?;
         Ok((stood_by(&life), current_in(life)))
+    }
+
+    /// What stands at a key in a custodian's last view, for an overlay that hides the item there,
+    /// which isn't read.
+    pub(crate) fn stands(&mut self, code: Code, key: &Key) -> Result<Stood, ShelfFault>
+        ensures { AsksTables self.old self.new result (λ db stood.
+            TellsStood (histories_in (rows_of db version2) code) (last_in db code)
+            key.now stood (map.get (last_in db code).items key.now)) }
+    {
+        let name = match name_of(self.alloc, key) {
+            Ok(name) => name,
+            Err(fault) => return Err(self.row_fault(fault)),
+        };
+        let rows = self.newest_rows(code, kind_in(key), &name)?;
+        match stood_said(&rows) {
+            Ok(stood) => Ok(stood),
+            Err(fault) => Err(self.row_fault(fault)),
+        }
     }
 
     /// The item at a key after a volume, which is to be reached; after volume 0 there is none.

@@ -2,9 +2,8 @@
 ghost use Rattle.std.specs.Prelude.{◌≡◌, false, Err, IfErr, IfOk};
 ghost use Rattle.sqlite.specs.Held.{state};
 ghost use Rattle.gaz_register.specs.Texts.{register_text};
-ghost use Rattle.gaz_kept.specs.Opening.{Judges, Tells, has_all};
-ghost use Rattle.gaz_kept.specs.OpeningFirst.{JudgesFirst, MayMove, TellsFirst, Untouched};
-ghost use Rattle.gaz_kept.specs.OpeningFirst.{has_first};
+ghost use Rattle.gaz_kept.specs.Opening.{Judges, Tells, Untouched, has_all};
+ghost use Rattle.gaz_kept.specs.OpeningFirst.{JudgesFirst, MayMove, TellsFirst, has_first};
 ghost use Rattle.gaz_store.specs.Migrating.{IsMoved};
 ghost use Rattle.gaz_store.specs.Opened.{IsOpened, IsRefused, answer_of, conn_of};
 ghost use Rattle.gaz_store.specs.Store.{seen_in};

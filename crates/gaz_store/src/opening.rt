@@ -4,7 +4,8 @@ ghost use Rattle.sqlite.specs.Held.{state};
 ghost use Rattle.sqlite.specs.State.{Survives};
 ghost use Rattle.gaz_register.specs.Texts.{register_text};
 ghost use Rattle.gaz_tables.specs.Creating.{MayCreate};
-ghost use Rattle.gaz_kept.specs.Opening.{Judges, Tells, has_all, has_any, schema_number};
+ghost use Rattle.gaz_kept.specs.Opening.{Judges, Tells, Untouched, has_all, has_any};
+ghost use Rattle.gaz_kept.specs.Opening.{schema_number};
 ghost use Rattle.gaz_store.specs.Opened.{IsMade, IsOpened, IsRefused, answer_of, conn_of};
 ghost use Rattle.gaz_store.specs.Store.{seen_in};
 
@@ -23,9 +24,9 @@ impl<S: Alter, R: OfRegister> Store<S, R> {
     /// Makes a store of a register in the database behind a connection outside a transaction,
     /// beside whatever is there. Who picks keys is not to foresee the seed.
     ///
-    /// `BadSchema` where a table named as one of a store's is there; `Fault` where memory or the
-    /// database failed. After a refusal the connection is handed back, over what was there. A stop
-    /// within the call leaves what was there, or the new store whole.
+    /// `BadSchema` where a table named as one of a store's is there, and nothing is written then;
+    /// `Fault` where memory or the database failed. After a refusal the connection is handed back,
+    /// over what was there. A stop within the call leaves what was there, or the new store whole.
     pub fn create(
         alloc: Global,
         seed: Seed,
@@ -41,6 +42,8 @@ impl<S: Alter, R: OfRegister> Store<S, R> {
         ensures refused { IfErr result (λ e. IsRefused S.Store conn e.0) }
         ensures leaves { MayCreate S.Store conn (conn_of result) schema_number
             (register_text register.now) }
+        ensures untouched { IsTrue (has_any (state S.Store conn).now.schema)
+            → Untouched S.Store conn (conn_of result) }
     {
         let mut conn = conn;
         match opening::create(alloc, &mut conn, register) {

@@ -45,11 +45,11 @@ known_there (x ∷ register) c known = by_first (eqb x.code c) refl (known_there
 -- what is kept of a partial run is of a register's custodians
 pub of_these : (register : RegisterValue) (s : Seen) → CanBeMirrored (door_of register) s → IsOfThese (codes_of register) s.content
 of_these register s can = record {
-  known = λ c v there. known_there register c (can.run.stands.1.known (c, v) there);
+  known = λ c v there. known_there register c (can.run.1.known (c, v) there);
   volumes = λ c v there. can.volumes (c, v) there;
   judged = λ c gone. by_known c gone (knows register c) refl;
 }
   where
     by_known : (c : ℕ) → ¬ Has (codes_of register) c → (b : Bool) → knows register c ≡ b → reached s.content.board c ≡ 0
     by_known c gone true known = absurd (gone (known_there register c known))
-    by_known c gone false unknown = none_judged (door_of register) s.content.files s.content.board c can.run.stands.1.known can.run.partial unknown
+    by_known c gone false unknown = none_judged (door_of register) s.content.files s.content.board c can.run.1.known can.run.1.partial unknown

@@ -16,8 +16,7 @@ use Rattle.gaz_store.specs.Store.{progress_of, seen_in, working_of}
 use Rattle.gaz_store.specs.declared.progress.Judging.{Judging}
 use Rattle.gaz_store.specs.declared.progress.Judging.TheVariants.{Idle, Open, Broken}
 use Rattle.gaz_store.specs.declared.store.Store.{Store}
-use Rattle.gaz_hub.specs.Hubs.{Runs, door_of, state_of}
-use Rattle.gaz_hub.specs.Laws.{StandsForRun}
+use Rattle.gaz_hub.specs.Hubs.{Runs, StandsFor, door_of, state_of}
 use Rattle.gaz_hub.specs.Seen.{hub_seen}
 use Rattle.gaz_hub.specs.Step.{Command, Door, HubState, Response}
 use Rattle.gaz_hub.specs.declared.hub.Hub.{Hub}
@@ -54,21 +53,21 @@ volumes db working kept p there =
     let first = (kept.files r.row r.there).first in
     subst (λ n. 1 ≤ n) (ap number_in r.is.of_volume) first
 
-pub can_mirror : {S N : Type 0} {g : Ghosts S} (text : List ℕ) (d : Door) (t : Store S N g) → StandsForRun d (seen_in text t) → CanBeMirrored d (seen_in text t)
+pub can_mirror : {S N : Type 0} {g : Ghosts S} (text : List ℕ) (d : Door) (t : Store S N g) → StandsFor d (seen_in text t) → CanBeMirrored d (seen_in text t)
 can_mirror {S} {N} {g} text d t run =
     let db = (state g t.tables.conn).now in
-    record { run = run; volumes = volumes db (working_of db t.judging) run.stands.0.tables.kept }
+    record { run = run; volumes = volumes db (working_of db t.judging) run.0.tables.kept }
 
 -- ---- runs
 
 module _ {U : Type 0} (seen : U → Seen) (d : Door) (a lower last : Seen) (upper kept : Option U) where
   -- nothing was asked while all was put at hand
-  begins : OnlyReads a lower → (a.unharmed → CanBeMirrored d a) → (CanBeMirrored d a → lower.unharmed → StandsForRun d (mirrored seen lower upper None)) → Runs d a (mirrored seen lower upper None) [] []
+  begins : OnlyReads a lower → (a.unharmed → CanBeMirrored d a) → (CanBeMirrored d a → lower.unharmed → StandsFor d (mirrored seen lower upper None)) → Runs d a (mirrored seen lower upper None) [] []
   begins reads was mirrors =
       let keeps = reads.keeps in
       record {
         harm = keeps.harm;
-        stands = λ _ fine. (mirrors (was (keeps.harm fine)) fine).stands;
+        stands = λ _ fine. mirrors (was (keeps.harm fine)) fine;
         run = λ stood fine. ap state_of (keeps.content stood.0 fine);
         idle = left_not_open a.progress lower.progress keeps.progress;
         failures = reads.failures;
@@ -114,7 +113,7 @@ module _ {U : Type 0} (seen : U → Seen) (d : Door) (a lower last : Seen) (uppe
   }
 
   runs_below : (held gathered : Option Gathered) (commands : List Command) (responses : List Response) → OnlyReads a lower → (a.unharmed → CanBeMirrored d a) → IsNotOpen (mirrored seen lower upper held).progress
-      → (CanBeMirrored d a → lower.unharmed → StandsForRun d (mirrored seen lower upper held)) → Runs d (mirrored seen lower upper held) (mirrored seen last kept gathered) commands responses → Runs d a last commands responses
+      → (CanBeMirrored d a → lower.unharmed → StandsFor d (mirrored seen lower upper held)) → Runs d (mirrored seen lower upper held) (mirrored seen last kept gathered) commands responses → Runs d a last commands responses
   runs_below None gathered commands responses reads was idle mirrors runs =
       runs_still d a (mirrored seen last kept gathered) last commands responses (runs_then d a (mirrored seen lower upper None) (mirrored seen last kept gathered) [] commands [] responses (begins reads was mirrors) runs) (ends gathered)
   runs_below (Some g) gathered commands responses reads was idle mirrors runs = absurd (idle g.code refl)
@@ -122,7 +121,7 @@ module _ {U : Type 0} (seen : U → Seen) (d : Door) (a lower last : Seen) (uppe
 -- what a hub over a mirror that remembered nothing made a run of is a run of one over the keeper
 pub over_keeper : {K : Type 0} (kind : shelf.Ghosts K) (register : RegisterValue) (first last : K) (begun left : Hub (MirrorOf kind)) (commands : List Command) (responses : List Response) → BeginsOver kind register first begun
     → IsNotOpen (seen_mirrored begun.keeper).progress
-    → (RestsBare kind.seen → CanBeMirrored (door_of register) (kind.seen first) → (seen_mirrored begun.keeper).unharmed → StandsForRun (door_of register) (seen_mirrored begun.keeper))
+    → (RestsBare kind.seen → CanBeMirrored (door_of register) (kind.seen first) → (seen_mirrored begun.keeper).unharmed → StandsFor (door_of register) (seen_mirrored begun.keeper))
     → left.keeper.lower ≡ last → Runs (door_of begun.register) (hub_seen seen_mirrored begun) (hub_seen seen_mirrored left) commands responses
     → RestsBare kind.seen → ((kind.seen first).unharmed → CanBeMirrored (door_of register) (kind.seen first)) → Runs (door_of register) (kind.seen first) (kind.seen last) commands responses
 over_keeper kind register first last begun left commands responses begins idle stands back runs bare can =

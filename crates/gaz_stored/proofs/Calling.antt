@@ -15,9 +15,10 @@ use Rattle.gaz_keeper.specs.Received.{Received}
 use Rattle.gaz_tables.specs.Metas.{register_of}
 use Rattle.gaz_tables.specs.Schema.{meta}
 use Rattle.gaz_tables.specs.Tables.{rows_of}
-use Rattle.gaz_kept.specs.Opening.{IsOf}
-use Rattle.gaz_kept.specs.OpeningFirst.{Untouched}
+use Rattle.gaz_kept.specs.Opening.{IsOf, Untouched}
+use Rattle.gaz_kept.proofs.MetaRows.{none_first}
 use Rattle.gaz_kept.proofs.SameTrees.{same_rows}
+use Rattle.gaz_store.specs.Opened.{IsRefused}
 use Rattle.gaz_store.specs.declared.store.Store.{Store}
 use Rattle.gaz_hub.specs.Growth.{GrownRun, Period, last_register}
 use Rattle.gaz_hub.specs.Hubs.{door_of}
@@ -34,7 +35,6 @@ use Rattle.gaz_stored.specs.declared.migrating.Migration.{Migration}
 use Rattle.gaz_stored.specs.declared.migrating.Migration.TheVariants.{Done, Current}
 use Rattle.gaz_stored.proofs.Beginning.{clean_before}
 use Rattle.gaz_stored.proofs.ExtendsOpened.{same_trees}
-use Rattle.gaz_stored.proofs.Moving.{none_first}
 
 -- ---- of which register the rows of `meta` are
 
@@ -111,8 +111,12 @@ module _ {S : Type 0} (g : Ghosts S) where
 
     -- a store is not migrated
     is_current : (other : RegisterValue) (told : Migration) → MigratesOpened g other before after told → Untouched g before after
-    is_current other Done it = let no : Done ≡ told_of false = it.told_is ∙ ap told_of (none_first g before store.stands.kept.tables) in absurd (cc)
+    is_current other Done it = let no : Done ≡ told_of false = it.told_is ∙ ap told_of (none_first old.schema store.stands.kept.tables.there) in absurd (cc)
     is_current other Current it = it.current refl
+
+    -- nor touched where it's refused
+    stays_as : IsRefused g before after → Untouched g before after
+    stays_as refused = record { rests = refused.rests; leaves = refused.leaves store.stands.kept.tables }
 
     module _ (found : Database) where
       abbrev To : (came : CameTo g before after) → IsFoundAfter g before after found → Type 0
@@ -125,21 +129,21 @@ module _ {S : Type 0} (g : Ghosts S) where
 
       leads : (came : CameTo g before after) (is_found : IsFoundAfter g before after found) → To came is_found
       leads (Used other first commands responses are uses) (Whole fine same) =
-          let one = one_register other are first uses.opened (uses.leads.trust fine.clean) in
+          let one = one_register other are first uses.opened (uses.trust fine.clean) in
           let stood = stood_of other one in
-          let goes = subst (GoesOn other (hub_in old) commands responses) same (uses.leads.goes_on fine stood) in
+          let goes = subst (GoesOn other (hub_in old) commands responses) same (uses.goes_on fine stood) in
           record {
             periods = period other commands responses ∷ [];
             periods_are = refl;
             run = (hub_in found, extends_of other one, goes.went.run, refl);
             last = are;
             store = goes.store;
-            stays = (uses.leads.went_on fine.clean stood, run_received (door_of other) (hub_in old) (hub_in found) commands responses goes.went.run);
+            stays = (uses.went_on fine.clean stood, run_received (door_of other) (hub_in old) (hub_in found) commands responses goes.went.run);
           }
       leads (Used other first commands responses are uses) (CutOff itself may) =
-          let one = one_register other are first uses.opened (uses.leads.trust may.clean) in
+          let one = one_register other are first uses.opened (uses.trust may.clean) in
           let stood = stood_of other one in
-          let later = uses.leads.stops stood itself found may in
+          let later = uses.stops stood itself found may in
           let far = later.run in
           record {
             periods = period other far.asked far.said ∷ [];
@@ -147,7 +151,7 @@ module _ {S : Type 0} (g : Ghosts S) where
             run = (hub_in found, extends_of other one, far.run, refl);
             last = are;
             store = later.store;
-            stays = (uses.leads.went_on may.clean stood, later.received);
+            stays = (uses.went_on may.clean stood, later.received);
           }
       leads (Grew other grown (Ok done) are new extends) (Whole fine same) =
           let one = one_register other are extends.first extends.opened (extends.trust fine.clean) in
@@ -191,15 +195,15 @@ module _ {S : Type 0} (g : Ghosts S) where
           ]
       leads (Moved other told migrates) (Whole fine same) = unmoved (Moved other told migrates) (Whole fine same) refl tt (is_current other told migrates)
       leads (Moved other told migrates) (CutOff itself may) = unmoved (Moved other told migrates) (CutOff itself may) refl tt (is_current other told migrates)
-      leads (Refused leaves) (Whole fine same) = unmoved (Refused leaves) (Whole fine same) refl tt (leaves store.stands.kept.tables)
-      leads (Refused leaves) (CutOff itself may) = unmoved (Refused leaves) (CutOff itself may) refl tt (leaves store.stands.kept.tables)
+      leads (Refused refused) (Whole fine same) = unmoved (Refused refused) (Whole fine same) refl tt (stays_as refused)
+      leads (Refused refused) (CutOff itself may) = unmoved (Refused refused) (CutOff itself may) refl tt (stays_as refused)
 
   -- more files have what a call received too
   stays_more : {before after : Held S} → (came : CameTo g before after) (files bigger : Received) → HasAllOf bigger files → StaysIn g came files → StaysIn g came bigger
   stays_more (Used register first commands responses is uses) files bigger all stays = (stays.0, received_more commands responses files bigger all stays.1)
   stays_more (Grew register grown told is are extends) files bigger all stays = tt
   stays_more (Moved register told migrates) files bigger all stays = tt
-  stays_more (Refused leaves) files bigger all stays = tt
+  stays_more (Refused refused) files bigger all stays = tt
 
   -- calls one after another lead to this
   record Lead (register : RegisterValue) (db : Database) (calls : List (Call g)) : Type 0 where

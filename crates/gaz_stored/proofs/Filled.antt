@@ -6,11 +6,8 @@ use Rattle.gaz_views.specs.View.{empty_view}
 use Rattle.gaz_keeper.specs.Keeper.{Content, Idle, Seen, after_stop}
 use Rattle.gaz_shelf.specs.Mem.{seen_in}
 use Rattle.gaz_shelf.specs.declared.mem_shelf.MemShelf.{MemShelf}
-use Rattle.gaz_hub.specs.Hubs.{door_of}
-use Rattle.gaz_hub.specs.Laws.{StandsForRun}
+use Rattle.gaz_hub.specs.Hubs.{StandsFor, door_of}
 use Rattle.gaz_hub.specs.Seen.{hub_seen}
-use Rattle.gaz_hub.specs.Standing.{IsPartial}
-use Rattle.gaz_hub.specs.Step.{blocks}
 use Rattle.gaz_hub.specs.Waiting.{Remembered, remembering}
 use Rattle.gaz_hub.specs.declared.hub.Hub.{Hub}
 use Rattle.gaz_hub.proofs.Advancing.{may_keep}
@@ -22,10 +19,10 @@ use Rattle.gaz_stored.proofs.Alike.{of_these}
 
 module _ (reg : RegisterValue) (b c : Seen) (reads : OnlyReads b c) (can : CanBeMirrored (door_of reg) b) (fine : c.unharmed) (lower_bare : c.progress ≡ Idle → c.content.working ≡ empty_view) where
   stood : c.stands
-  stood = reads.keeps.stands can.run.stands.0 fine
+  stood = reads.keeps.stands can.run.0 fine
 
   same : c.content ≡ b.content
-  same = reads.keeps.content can.run.stands.0 fine
+  same = reads.keeps.content can.run.0 fine
 
   -- without a working view it is as after a stop
   rests : c.content.working ≡ empty_view → after_stop c.content ≡ c.content
@@ -38,19 +35,13 @@ module _ (reg : RegisterValue) (b c : Seen) (reads : OnlyReads b c) (can : CanBe
       record {
         lower = stood;
         upper = tt;
-        same = is.loaded can.run.stands.0 fine (of_these reg b can) ∙ ap after_stop (sym same) ∙ rests (lower_bare is.lower);
+        same = is.loaded can.run.0 fine (of_these reg b can) ∙ ap after_stop (sym same) ∙ rests (lower_bare is.lower);
       }
 
-  pub stands_mirrored : (upper : Option MemShelf) → ForSome upper (IsFilled reg b c) → StandsForRun (door_of reg) (mirrored seen_in c upper None)
+  pub stands_mirrored : (upper : Option MemShelf) → ForSome upper (IsFilled reg b c) → StandsFor (door_of reg) (mirrored seen_in c upper None)
   stands_mirrored upper filled =
       let d = door_of reg in
-      record {
-        stands = (
-          both_stand upper filled,
-          may_keep d b.content c.content (ap (λ (k : Content). k.files) same) (ap (λ (k : Content). k.board) same) can.run.stands.1,
-        );
-        partial = subst (λ (k : Content). IsPartial (blocks d) k.files k.board) (sym same) can.run.partial;
-      }
+      (both_stand upper filled, may_keep d b.content c.content (ap (λ (k : Content). k.files) same) (ap (λ (k : Content). k.board) same) can.run.1)
 
 -- ---- in answers
 
@@ -61,5 +52,5 @@ over_parts {K} seen P hub reg keeper e f g = subst (λ (t : RegisterValue × K �
 
 -- also where the three have other names
 pub of_made : {L K : Type 0} (low : L → Seen) (seen : K → Seen) (reg : RegisterValue) (x y : L) (u v : Option K) (gathered : Option Gathered) → x ≡ y → u ≡ v → gathered ≡ None
-    → ((low y).unharmed → StandsForRun (door_of reg) (mirrored seen (low y) v None)) → (low x).unharmed → StandsForRun (door_of reg) (mirrored seen (low x) u gathered)
-of_made {L} {K} low seen reg x y u v gathered e f none = subst (λ (t : L × Option K × Option Gathered). (low t.0).unharmed → StandsForRun (door_of reg) (mirrored seen (low t.0) t.1 t.2)) (λ i. (sym e i, sym f i, sym none i))
+    → ((low y).unharmed → StandsFor (door_of reg) (mirrored seen (low y) v None)) → (low x).unharmed → StandsFor (door_of reg) (mirrored seen (low x) u gathered)
+of_made {L} {K} low seen reg x y u v gathered e f none = subst (λ (t : L × Option K × Option Gathered). (low t.0).unharmed → StandsFor (door_of reg) (mirrored seen (low t.0) t.1 t.2)) (λ i. (sym e i, sym f i, sym none i))

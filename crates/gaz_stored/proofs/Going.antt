@@ -1,6 +1,6 @@
 -- What a hub did over a store, by a run of its keeper: what the tables stand for, and what a stop leaves.
 use Rattle.std.proofs.Common.{◌≡◌, ◌∙◌, inl, inr, ℕ, Bool, true, false, List, ap, refl, subst, sym}
-use Rattle.sqlite.specs.Held.{Held, state}
+use Rattle.sqlite.specs.Held.{state}
 use Rattle.sqlite.specs.State.{HasCleanDisk}
 use Rattle.sqlite_trees.specs.declared.store.Store.{Ghosts}
 use Rattle.gaz_register.specs.Registers.{RegisterValue, blocks_of}
@@ -12,8 +12,7 @@ use Rattle.gaz_store.specs.Seen.{IsUnharmed, kept_by_trees}
 use Rattle.gaz_store.specs.Store.{seen_in}
 use Rattle.gaz_store.specs.declared.store.Store.{Store}
 use Rattle.gaz_hub.specs.Found.{HasFilesOf}
-use Rattle.gaz_hub.specs.Hubs.{AreKnown, Runs, all_declined, door_of, state_of}
-use Rattle.gaz_hub.specs.Laws.{StandsForRun}
+use Rattle.gaz_hub.specs.Hubs.{AreKnown, Runs, StandsFor, all_declined, door_of, state_of}
 use Rattle.gaz_hub.specs.Runs.{Run}
 use Rattle.gaz_hub.specs.Standing.{IsPartial}
 use Rattle.gaz_hub.specs.Step.{Command, Door, HubState, Response}
@@ -24,7 +23,6 @@ use Rattle.gaz_hub.proofs.Receiving.{all_told, run_has_all}
 use Rattle.gaz_hub.proofs.Runs.{every_run_from_holds}
 use Rattle.gaz_stored.specs.Runs.{GoesOn, Went, WentOn, hub_in}
 use Rattle.gaz_stored.specs.Stopping.{FindsLater, RunsCutOff}
-use Rattle.gaz_stored.specs.Using.{Leads}
 use Rattle.gaz_stored.proofs.Cutting.{cut_after, cut_at_once}
 
 -- from a partial board
@@ -42,7 +40,7 @@ module _ {S N : Type 0} {g : Ghosts S} (register : RegisterValue) (first : Store
 
   -- a store stands for this hub
   abbrev pub Begun : HubState → Type 0
-  Begun hub = StandsForRun (door_of register) as_first × (state_of as_first.content ≡ hub)
+  Begun hub = StandsFor (door_of register) as_first × (state_of as_first.content ≡ hub)
 
   -- and a stop leaves just that, whatever a failure shut
   pub record LeavesHub (hub : HubState) : Type 0 where
@@ -71,14 +69,14 @@ module _ {S N : Type 0} {g : Ghosts S} (register : RegisterValue) (first last : 
 
   pub goes_on : Begins → MakesRun → IsUnharmed (state g last.tables.conn) → GoesOn register hub commands responses (state g last.tables.conn).now
   goes_on begun runs fine =
-      let stands = runs.stands begun.0.stands fine in
-      let run = subst (λ h. Run d h commands responses (hub_in (state g last.tables.conn).now)) begun.1 (runs.run begun.0.stands fine) in
-      let partial = subst (λ (h : HubState). IsPartial (blocks_of register) h.received h.board) begun.1 begun.0.partial in
+      let stands = runs.stands begun.0 fine in
+      let run = subst (λ h. Run d h commands responses (hub_in (state g last.tables.conn).now)) begun.1 (runs.run begun.0 fine) in
+      let partial = subst (λ (h : HubState). IsPartial (blocks_of register) h.received h.board) begun.1 begun.0.1.partial in
       let went = went_by register hub commands responses (hub_in (state g last.tables.conn).now) partial run in
       record { went = went; store = record { stands = record { kept = stands.0.tables.kept; known = stands.1.known; partial = went.abides.partial }; whose = stands.0.tables.whose } }
 
   -- what is declined leads nowhere, and all else was told of a store that was open
-  went_on : IsPartly → (IsUnharmed (state g first.tables.conn) → Begins) → MakesRun → HasCleanDisk (state g last.tables.conn) → WentOn register hub commands responses
+  pub went_on : IsPartly → (IsUnharmed (state g first.tables.conn) → Begins) → MakesRun → HasCleanDisk (state g last.tables.conn) → WentOn register hub commands responses
   went_on partial begun runs clean = by_responses (all_declined responses) refl
     where
       to : (after : HubState) → Run d hub commands responses after → WentOn register hub commands responses
@@ -88,13 +86,13 @@ module _ {S N : Type 0} {g : Ghosts S} (register : RegisterValue) (first last : 
       by_responses true is = to hub (runs.stays is hub)
       by_responses false is =
           let began = begun (runs.was_open is clean) in
-          let reached = runs.reaches began.0.stands clean in
+          let reached = runs.reaches began.0 clean in
           to reached.0 (subst (λ h. Run d h commands responses reached.0) began.1 reached.1)
 
   -- what a stop leaves of it
   module _ (partial : IsPartly) (begun : IsUnharmed (state g first.tables.conn) → Begins) (leaves : LeavesHub register first hub) (runs : MakesRun) where
     stops : StopsRun d (seen_in text first) (seen_in text last) (state_of (seen_in text first).content) (state_of (seen_in text last).content) commands responses
-    stops = runs.stops (λ fine. (begun fine).0.stands)
+    stops = runs.stops (λ fine. (begun fine).0)
 
     cut : (k : Content) → (seen_in text last).leaves k → RunsCutOff d hub commands responses (state_of k)
     cut k left = elim (stops.ever k left) [
@@ -110,7 +108,7 @@ module _ {S N : Type 0} {g : Ghosts S} (register : RegisterValue) (first last : 
         let found = every_stop_over (seen_in text) d first last commands responses began.0 (λ k before. leaves.only k before ∙ sym (leaves.same early)) runs k left in
         subst (λ h. HasFilesOf d h (state_of (seen_in text last).content) commands responses k.files) began.1 (found.now fine)
 
-    finds : FindsLater register hub commands responses (state g last.tables.conn)
+    pub finds : FindsLater register hub commands responses (state g last.tables.conn)
     finds db may =
         let k = content_in db empty_view in
         let left : (seen_in text last).leaves k = record { clean = may.clean; db = db; sound = may.sound; left = may.left; content = refl } in
@@ -131,15 +129,3 @@ module _ {S N : Type 0} {g : Ghosts S} (register : RegisterValue) (first last : 
           told = all_told d hub commands responses k.files (run_has_all d hub (state_of k) far.asked far.said far.run) received;
           now = now k left;
         }
-
-  pub leads : (Asked Itself : Type 0) → (Asked → IsPartly) → (Asked → IsUnharmed (state g first.tables.conn) → Begins) → (Asked → Itself → LeavesHub register first hub)
-      → (IsUnharmed (state g last.tables.conn) → IsUnharmed (state g first.tables.conn)) → (HasCleanDisk (state g last.tables.conn) → HasCleanDisk (state g first.tables.conn)) → (Asked → MakesRun) → (after : Held S) → last.tables.conn ≡ after
-      → Leads register Asked Itself hub (state g first.tables.conn) (state g after) commands responses
-  leads Asked Itself partial begun leaves harm trust runs after back =
-      subst (λ h. Leads register Asked Itself hub (state g first.tables.conn) (state g h) commands responses) back (record {
-        harm = harm;
-        trust = trust;
-        went_on = λ clean b. went_on (partial b) (begun b) (runs b) clean;
-        goes_on = λ fine b. goes_on (begun b ((runs b).harm fine)) (runs b) fine;
-        stops = λ b itself. finds (partial b) (begun b) (leaves b itself) (runs b);
-      })

@@ -1,17 +1,14 @@
 -- A store that is made of the tables of schema 1 stands for the hub that they stood for.
 use Rattle.std.proofs.Common.{◌≡◌, inl, inr, Bool, true, false, Ok, arith, refl, sym, ap, subst}
 use Rattle.std.specs.declared.marker.Brand.{Brand}
-use Rattle.std.proofs.lemmas.Bool.{cases_Bool}
 use Rattle.sqlite.specs.Held.{Held, state}
 use Rattle.sqlite.specs.State.{HasCleanDisk}
 use Rattle.sqlite_trees.specs.declared.store.Store.{Ghosts}
 use Rattle.gaz_register.specs.Registers.{RegisterValue, blocks_of}
 use Rattle.gaz_register.specs.Texts.{register_text}
 use Rattle.gaz_views.specs.View.{empty_view}
-use Rattle.gaz_tables.specs.Stores.{HasTables}
-use Rattle.gaz_kept.specs.Opening.{Tells}
-use Rattle.gaz_kept.specs.OpeningFirst.{MayMove, TellsFirst, Untouched, has_first}
-use Rattle.gaz_kept.proofs.MetaRows.{not_store}
+use Rattle.gaz_kept.specs.Opening.{Tells, Untouched}
+use Rattle.gaz_kept.specs.OpeningFirst.{MayMove, TellsFirst, has_first}
 use Rattle.gaz_kept.proofs.Migrated.{migration_stands}
 use Rattle.gaz_hub.specs.Hubs.{AreKnown, door_of, state_of}
 use Rattle.gaz_hub.specs.Standing.{IsPartial}
@@ -43,13 +40,6 @@ migrated_stands register old new was mine moves =
 not_first : (first : Bool) → told_of first ≡ Current → first ≡ false
 not_first true e = absurd (cc)
 not_first false e = refl
-
--- a store is none of schema 1
-pub none_first : {S : Type 0} (g : Ghosts S) (before : Held S) → HasTables (state g before).now → has_first (state g before).now.schema ≡ false
-none_first g before has = elim (cases_Bool (has_first (state g before).now.schema)) [
-  | inl is ↦ absurd (not_store (state g before).now.schema has.there is)
-  | inr not ↦ not
-]
 
 module _ {S : Type 0} (g : Ghosts S) (register : RegisterValue) (before : Held S) where
   pub stops_moving : (after : Held S) (r : _) → MayMove g before after r (register_text register) → StopsMoving g register before after

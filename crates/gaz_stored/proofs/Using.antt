@@ -18,14 +18,12 @@ use Rattle.gaz_store.specs.declared.tables.Tables.{Tables}
 use Rattle.gaz_hub.specs.Hubs.{Runs, door_of}
 use Rattle.gaz_hub.specs.Step.{Command, Response, new_hub}
 use Rattle.gaz_hub.proofs.HubRuns.{runs_none}
-use Rattle.gaz_hub.proofs.Runs.{nothing_partial}
 use Rattle.gaz_stored.specs.Runs.{GoesOn, StandForRun, hub_in}
-use Rattle.gaz_stored.specs.Stopping.{LeavesItself}
-use Rattle.gaz_stored.specs.Using.{IsOpenedFrom, IsSame, UsedAs, Uses, UsesMade, UsesOpened}
+use Rattle.gaz_stored.specs.Using.{IsOpenedFrom, IsSame, UsedAs, Uses, UsesOpened}
 use Rattle.gaz_stored.specs.Ways.{Way}
-use Rattle.gaz_stored.proofs.Beginning.{begun_new, begun_opened, leaves_new, leaves_opened}
+use Rattle.gaz_stored.proofs.Beginning.{begun_new, begun_opened, leaves_opened}
 use Rattle.gaz_stored.proofs.Below.{can_mirror, rests_bare}
-use Rattle.gaz_stored.proofs.Going.{goes_on, leads}
+use Rattle.gaz_stored.proofs.Going.{finds, goes_on, went_on}
 
 -- what is so of a store is so whatever names its register
 same_seen : {S R N : Type 0} {g : Ghosts S} (text : List ℕ) (one : Store S R g) (other : Store S N g) → IsSame one other → (P : State → Seen → Type 0) → P (state g one.tables.conn) (seen_in text one)
@@ -44,10 +42,17 @@ same_opened {S} {R} {N} {g} register before one other same from = record {
 module _ {S : Type 0} {g : Ghosts S} (register : RegisterValue) (before after : Held S) where
   uses : (first last : Store S Brand g) (commands : List Command) (responses : List Response) → (IsUnharmed (state g last.tables.conn) → IsUnharmed (state g first.tables.conn)) → (HasCleanDisk (state g last.tables.conn) → HasCleanDisk (state g first.tables.conn)) → IsOpenedFrom g register before first
       → last.tables.conn ≡ after → (StandForRun register (state g before).now → Runs (door_of register) (seen_in (register_text register) first) (seen_in (register_text register) last) commands responses) → Uses g register first before after commands responses
-  uses first last commands responses harm trust from back runs = record {
-    opened = from;
-    leads = leads register first last (hub_in (state g before).now) commands responses (StandForRun register (state g before).now) (LeavesItself (state g before)) (λ stood. stood.partial) (begun_opened register first before from) (leaves_opened register first before from) harm trust runs after back;
-  }
+  uses first last commands responses harm trust from back runs =
+      let hub = hub_in (state g before).now in
+      let begun = begun_opened register first before from in
+      subst (λ h. Uses g register first before h commands responses) back (record {
+        opened = from;
+        harm = harm;
+        trust = trust;
+        went_on = λ clean stood. went_on register first last hub commands responses stood.partial (begun stood) (runs stood) clean;
+        goes_on = λ fine stood. goes_on register first last hub commands responses (begun stood (harm fine)) (runs stood) fine;
+        stops = λ stood itself. finds register first last hub commands responses stood.partial (begun stood) (leaves_opened register first before from stood itself) (runs stood);
+      })
 
   module _ (way : Way (Store S Brand g)) (given : Store S Brand g) where
     -- a store that was opened and left as it is
@@ -75,22 +80,6 @@ module _ {S : Type 0} {g : Ghosts S} (register : RegisterValue) (before after : 
             back = it.back;
             uses = uses it.first it.last it.goes.commands it.goes.responses it.goes.harm it.goes.trust from it.back
                 (λ stood. it.goes.runs (rests_bare (register_text register)) (λ fine. can_mirror (register_text register) (door_of register) it.first (begun_opened register it.first before from stood fine).0));
-          }
-
-      pub used_made : IsMade (state g before) (state g given.tables.conn) (register_text register) (seen_in (register_text register) given) → UsesMade g register way before after
-      used_made made_given =
-          let first = it.first in
-          let made = same_seen (register_text register) given first it.same (λ s seen. IsMade (state g before) s (register_text register) seen) made_given in
-          record {
-            first = first;
-            last = it.last;
-            commands = it.goes.commands;
-            responses = it.goes.responses;
-            went = it.goes.went;
-            back = it.back;
-            made = made;
-            leads = leads register first it.last new_hub it.goes.commands it.goes.responses (HasRoom (state g before).now.schema) (IsUnharmed (state g first.tables.conn)) (λ _. nothing_partial (door_of register)) (begun_new register first before made) (leaves_new register first before made) it.goes.harm it.goes.trust
-                (λ room. it.goes.runs (rests_bare (register_text register)) (λ fine. can_mirror (register_text register) (door_of register) first (begun_new register first before made room fine).0)) after it.back;
           }
 
 -- a store that was made where there was room is one of which nothing was asked

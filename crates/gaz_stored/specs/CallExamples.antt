@@ -2,21 +2,24 @@
 use Rattle.std.specs.Prelude.{◌≡◌, List, [], ◌∷◌, Ok}
 use Rattle.std.proofs.Common.{refl}
 use Rattle.std.specs.declared.marker.Brand.{Brand}
+use Rattle.sqlite.specs.Effect.{Database}
 use Rattle.sqlite.specs.Held.{Held, state}
 use Rattle.sqlite_trees.specs.declared.store.Store.{Ghosts}
 use Rattle.gaz_register.specs.Registers.{IsRegister, RegisterValue}
+use Rattle.gaz_store.specs.Opened.{IsRefused}
 use Rattle.gaz_store.specs.Seen.{IsUnharmed}
 use Rattle.gaz_store.specs.WorkedGrowing.{county, town}
 use Rattle.gaz_store.specs.declared.store.Store.{Store}
 use Rattle.gaz_hub.specs.Growth.{GrownRun, Period}
 use Rattle.gaz_hub.specs.Step.{Command, Pose, Response}
 use Rattle.gaz_hub.specs.declared.question.Question.TheVariants.{Settle}
-use Rattle.gaz_stored.specs.Calls.{AreAllPeriods, Call, FollowOn, Grew, Refused, Used, Whole}
+use Rattle.gaz_stored.specs.Calls.{AreAllPeriods, AreOneRun, ArePeriodsOf, Call, FollowOn, Grew}
+use Rattle.gaz_stored.specs.Calls.{Refused, Used, Whole}
 use Rattle.gaz_stored.specs.Calls.{found_last, period, periods_in}
 use Rattle.gaz_stored.specs.Examples.{bare_database, sends, worked_database, worked_hub}
 use Rattle.gaz_stored.specs.Extending.{ExtendsOpened}
 use Rattle.gaz_stored.specs.Stopping.{IsCutTo, cut_receiving, cut_settling}
-use Rattle.gaz_stored.specs.Using.{LeavesStore, Uses}
+use Rattle.gaz_stored.specs.Using.{Uses}
 
 -- what is left of a file that was sent and answered
 pub record WorkedCuts : Type 0 where
@@ -31,13 +34,13 @@ pub record WorkedCuts : Type 0 where
   pub unsent : ¬ IsCutTo [] [] (sends ∷ []) (cut_receiving ∷ [])
 
 -- Below, a connection is handed back as it was given.
-module _ {S : Type 0} (g : Ghosts S) (conn : Held S) (leaves : LeavesStore g conn conn)
+module _ {S : Type 0} (g : Ghosts S) (conn : Held S) (refused : IsRefused g conn conn)
     (fine : IsUnharmed (state g conn)) where
   abbrev pub in_vain : Call g
   in_vain = record {
     before = conn;
     after = conn;
-    came = Refused leaves;
+    came = Refused refused;
     found = (state g conn).now;
     is_found = Whole fine refl;
   }
@@ -60,6 +63,14 @@ module _ {S : Type 0} (g : Ghosts S) (conn : Held S) (leaves : LeavesStore g con
         → ¬ FollowOn g worked_database (in_vain ∷ [])
     pub left : found_last g bare_database (in_vain ∷ []) ≡ (state g conn).now
     pub left_by_none : found_last g bare_database [] ≡ bare_database
+    -- the one run of calls that were refused is of nothing; behind one, that of a call of one period
+    -- is of just that
+    pub of_nothing : (register : RegisterValue) (db : Database)
+        (it : AreOneRun g register db (in_vain ∷ in_vain ∷ [])) → it.periods ≡ []
+    pub of_one : (register : RegisterValue) (db : Database) (call : Call g) (p : Period)
+        → ((periods : List Period) → ArePeriodsOf g call.came call.is_found periods
+        → periods ≡ p ∷ [])
+        → (it : AreOneRun g register db (in_vain ∷ call ∷ [])) → it.periods ≡ p ∷ []
     -- a custodian is gone
     pub shrinks : ¬ GrownRun (county ∷ town ∷ []) worked_hub
         (period (county ∷ []) [] [] ∷ []) worked_hub

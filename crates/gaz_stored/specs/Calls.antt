@@ -7,6 +7,7 @@ use Rattle.sqlite.specs.Held.{Held, state}
 use Rattle.sqlite_trees.specs.declared.store.Store.{Ghosts}
 use Rattle.gaz_register.specs.Registers.{IsRegister, RegisterValue}
 use Rattle.gaz_keeper.specs.Received.{Received}
+use Rattle.gaz_store.specs.Opened.{IsRefused}
 use Rattle.gaz_store.specs.Seen.{IsUnharmed}
 use Rattle.gaz_store.specs.declared.growing.ExtendFault.{ExtendFault}
 use Rattle.gaz_store.specs.declared.store.Store.{Store}
@@ -17,7 +18,7 @@ use Rattle.gaz_stored.specs.Extending.{ExtendsOpened}
 use Rattle.gaz_stored.specs.Migrating.{MigratesOpened}
 use Rattle.gaz_stored.specs.Runs.{IsStoreOf, WentOn, hub_in}
 use Rattle.gaz_stored.specs.Stopping.{IsCutTo, LeavesItself, MayBeLeft}
-use Rattle.gaz_stored.specs.Using.{LeavesStore, Uses}
+use Rattle.gaz_stored.specs.Using.{Uses}
 use Rattle.gaz_stored.specs.declared.migrating.Migration.{Migration}
 
 -- what a hub of this register was asked and said
@@ -40,7 +41,7 @@ module _ {S : Type 0} (g : Ghosts S) where
 
   -- what a call that was given one connection and handed back another came to, by its contract: a
   -- hub was used over the store that was there, whichever way; the store's register was to grow; it
-  -- was to be migrated; or a store that was there was left as it was
+  -- was to be migrated; or it was refused
   pub data CameTo (before after : Held S) : Type 0 where
     Used : (register : RegisterValue) (first : Store S Brand g) (commands : List Command)
         (responses : List Response) → IsRegister register
@@ -50,7 +51,7 @@ module _ {S : Type 0} (g : Ghosts S) where
         → ExtendsOpened g register grown before after told → CameTo before after
     Moved : (register : RegisterValue) (told : Migration)
         → MigratesOpened g register before after told → CameTo before after
-    Refused : LeavesStore g before after → CameTo before after
+    Refused : IsRefused g before after → CameTo before after
 
   -- what is found after it: what its connection shows, where no failure shut that; or what a stop
   -- left of it, where a stop at its beginning left just what the call had found
@@ -76,7 +77,7 @@ module _ {S : Type 0} (g : Ghosts S) where
   periods_in (Grew register grown (Ok done) is are extends) = period grown [] [] ∷ []
   periods_in (Grew register grown (Err why) is are extends) = []
   periods_in (Moved register told migrates) = []
-  periods_in (Refused leaves) = []
+  periods_in (Refused refused) = []
 
   -- what is left of that where the call was cut off: the first of what was asked and said, and one
   -- that was cut off; that the register has grown, or nothing
@@ -87,7 +88,7 @@ module _ {S : Type 0} (g : Ghosts S) where
   AreLeftOf (Grew register grown told is are extends) periods =
       (periods ≡ []) ⊎ (periods ≡ period grown [] [] ∷ [])
   AreLeftOf (Moved register told migrates) periods = periods ≡ []
-  AreLeftOf (Refused leaves) periods = periods ≡ []
+  AreLeftOf (Refused refused) periods = periods ≡ []
 
   abbrev pub ArePeriodsOf : {before after : Held S} {found : Database} → CameTo before after
       → IsFoundAfter before after found → List Period → Type 0

@@ -8,7 +8,7 @@ use Rattle.gaz_shelf.specs.Mem.{seen_in}
 use Rattle.gaz_shelf.specs.declared.mem_shelf.MemShelf.{MemShelf}
 use Rattle.gaz_loaded.specs.Loading.{IsLoaded}
 pub use Rattle.gaz_mirror.specs.Bare.{RestsBare}
-use Rattle.gaz_hub.specs.Laws.{StandsForRun}
+use Rattle.gaz_hub.specs.Hubs.{StandsFor}
 use Rattle.gaz_hub.specs.Runs.{Run}
 use Rattle.gaz_hub.specs.Step.{Command, Door, HubState, Response}
 
@@ -24,7 +24,7 @@ VolumesStay =
 
 -- a keeper stands for a partial run, of files that came as volumes from 1 on
 pub record CanBeMirrored (door : Door) (s : Seen) : Type 0 where
-  pub run : StandsForRun door s
+  pub run : StandsFor door s
   pub volumes : AreVolumes s.content.files
 
 -- the codes of a register's custodians

@@ -12,8 +12,8 @@ use Rattle.gaz_tables.specs.Migrating.{HasFirstTables, Migrates}
 use Rattle.gaz_tables.specs.Schema.{meta}
 use Rattle.gaz_tables.specs.Tables.{rows_of}
 use Rattle.gaz_kept.specs.Migrated.{IsFirstKept, first_content_in}
-use Rattle.gaz_kept.specs.Opening.{Judges, Tells, has_all, schema_number}
-use Rattle.gaz_kept.specs.OpeningFirst.{IsOfFirst, JudgesFirst, TellsFirst, Untouched, has_first}
+use Rattle.gaz_kept.specs.Opening.{Judges, Tells, Untouched, has_all, schema_number}
+use Rattle.gaz_kept.specs.OpeningFirst.{IsOfFirst, JudgesFirst, TellsFirst, has_first}
 use Rattle.gaz_kept.specs.declared.refusal.StoreRefusal.{StoreRefusal}
 use Rattle.gaz_kept.specs.declared.refusal.StoreRefusal.TheVariants.{BadSchema}
 use Rattle.gaz_hub.specs.Hubs.{AreKnown, door_of, state_of}

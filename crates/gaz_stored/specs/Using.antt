@@ -3,22 +3,19 @@
 use Rattle.std.specs.Prelude.{◌≡◌, false, ℕ, List, Result, Ok, Err, IfErr}
 use Rattle.std.specs.declared.marker.Brand.{Brand}
 use Rattle.sqlite.specs.Held.{Held, state}
-use Rattle.sqlite.specs.State.{HasCleanDisk, State}
+use Rattle.sqlite.specs.State.{HasCleanDisk}
 use Rattle.sqlite_trees.specs.declared.store.Store.{Ghosts}
 use Rattle.gaz_register.specs.Registers.{RegisterValue}
 use Rattle.gaz_register.specs.Texts.{register_text}
 use Rattle.gaz_keeper.specs.declared.shelf.Shelf as keeper
-use Rattle.gaz_tables.specs.Creating.{HasRoom}
-use Rattle.gaz_tables.specs.Stores.{HasTables}
-use Rattle.gaz_kept.specs.Opening.{Judges, Tells, has_all}
-use Rattle.gaz_kept.specs.OpeningFirst.{Untouched}
+use Rattle.gaz_kept.specs.Opening.{Judges, Tells, Untouched, has_all}
 use Rattle.gaz_kept.specs.declared.refusal.StoreRefusal.{StoreRefusal}
 use Rattle.gaz_kept.specs.declared.refusal.StoreRefusal.TheVariants.{BadSchema}
-use Rattle.gaz_store.specs.Opened.{IsMade, IsOpened, IsRefused}
+use Rattle.gaz_store.specs.Opened.{IsOpened, IsRefused}
 use Rattle.gaz_store.specs.Seen.{IsUnharmed}
 use Rattle.gaz_store.specs.Store.{seen_in}
 use Rattle.gaz_store.specs.declared.store.Store.{Store}
-use Rattle.gaz_hub.specs.Step.{Command, HubState, Response, new_hub}
+use Rattle.gaz_hub.specs.Step.{Command, Response}
 use Rattle.gaz_stored.specs.Runs.{GoesOn, StandForRun, WentOn, hub_in}
 use Rattle.gaz_stored.specs.Stopping.{FindsLater, LeavesItself}
 use Rattle.gaz_stored.specs.Ways.{GoesBy, Way}
@@ -44,21 +41,6 @@ pub record UsedAs {S R : Type 0} {g : Ghosts S} (N : Type 0) (text : List ℕ)
   pub goes : GoesBy (seen_in text) register way first last
   pub back : last.tables.conn ≡ after
 
--- What a hub of this register did and said over tables, and what a stop leaves of it. It begins as
--- this one where `Begins` is so of the tables, and `Itself` of what a stop leaves of them; the
--- states are those of the connection once there is a store, and in the end.
-pub record Leads (register : RegisterValue) (Begins Itself : Type 0) (hub : HubState)
-    (opened after : State) (commands : List Command) (responses : List Response) : Type 0 where
-  -- where the connection is open in the end, or the disk clean, it was
-  pub harm : IsUnharmed after → IsUnharmed opened
-  pub trust : HasCleanDisk after → HasCleanDisk opened
-  -- where the disk stayed clean it went on, whatever a failure shut
-  pub went_on : HasCleanDisk after → Begins → WentOn register hub commands responses
-  -- and to what the tables stand for, where the connection is open
-  pub goes_on : IsUnharmed after → Begins → GoesOn register hub commands responses after.now
-  -- and what a stop leaves in the end is found so, whatever a failure shut
-  pub stops : Begins → Itself → FindsLater register hub commands responses after
-
 -- the database behind a connection was opened as this store of the register, of which its only row
 -- of `meta` is
 pub record IsOpenedFrom {S R : Type 0} (g : Ghosts S) (register : RegisterValue) (before : Held S)
@@ -68,21 +50,26 @@ pub record IsOpenedFrom {S R : Type 0} (g : Ghosts S) (register : RegisterValue)
   pub told : Tells g before first.tables.conn (Ok tt) (register_text register)
   pub judged : Judges g before first.tables.conn (Ok tt) (register_text register)
 
--- a store that was there is left as it was
-abbrev pub LeavesStore : {S : Type 0} → Ghosts S → Held S → Held S → Type 0
-LeavesStore g before after = HasTables (state g before).now → Untouched g before after
-
 -- Below, before and after are the connection that is given and the one that is handed back.
 module _ {S : Type 0} (g : Ghosts S) (register : RegisterValue) where
-  -- A hub of this register did this and said that over the store that was opened so.
+  -- A hub of this register did this and said that over the store that was opened so, and that is
+  -- what a stop leaves of it. Where the tables stand for a partial run it begins with that.
   pub record Uses {R : Type 0} (first : Store S R g) (before after : Held S)
       (commands : List Command) (responses : List Response) : Type 0 where
     pub opened : IsOpenedFrom g register before first
-    -- where the tables stand for a partial run, the hub begins with that; for what a stop leaves in
-    -- the end, where it left just these tables at the beginning
-    pub leads : Leads register (StandForRun register (state g before).now)
-        (LeavesItself (state g before)) (hub_in (state g before).now)
-        (state g first.tables.conn) (state g after) commands responses
+    -- where the connection is open in the end, or the disk clean, it was once there was a store
+    pub harm : IsUnharmed (state g after) → IsUnharmed (state g first.tables.conn)
+    pub trust : HasCleanDisk (state g after) → HasCleanDisk (state g first.tables.conn)
+    -- where the disk stayed clean it went on, whatever a failure shut
+    pub went_on : HasCleanDisk (state g after) → StandForRun register (state g before).now
+        → WentOn register (hub_in (state g before).now) commands responses
+    -- and to what the tables stand for, where the connection is open
+    pub goes_on : IsUnharmed (state g after) → StandForRun register (state g before).now
+        → GoesOn register (hub_in (state g before).now) commands responses (state g after).now
+    -- and what a stop leaves in the end is found so, whatever a failure shut, where one at the
+    -- beginning left just these tables
+    pub stops : StandForRun register (state g before).now → LeavesItself (state g before)
+        → FindsLater register (hub_in (state g before).now) commands responses (state g after)
 
   -- it was used so over the store that is there
   pub record UsesOpened (way : Way (Store S Brand g)) (before after : Held S) : Type 0 where
@@ -93,22 +80,6 @@ module _ {S : Type 0} (g : Ghosts S) (register : RegisterValue) where
     pub went : way first last commands responses
     pub back : last.tables.conn ≡ after
     pub uses : Uses first before after commands responses
-
-  -- it was used so over a store that was made
-  pub record UsesMade (way : Way (Store S Brand g)) (before after : Held S) : Type 0 where
-    pub first : Store S Brand g
-    pub last : Store S Brand g
-    pub commands : List Command
-    pub responses : List Response
-    pub went : way first last commands responses
-    pub back : last.tables.conn ≡ after
-    pub made : IsMade (state g before) (state g first.tables.conn) (register_text register)
-        (seen_in (register_text register) first)
-    -- where there was room, the hub begins with nothing; for what a stop leaves in the end, where
-    -- the connection was open once there was a store
-    pub leads : Leads register (HasRoom (state g before).now.schema)
-        (IsUnharmed (state g first.tables.conn)) new_hub (state g first.tables.conn)
-        (state g after) commands responses
 
   -- why there is no store of this register, where that is told; the database holds what it held
   pub record LacksStore {T : Type 0} (before after : Held S) (told : Result T StoreRefusal)

@@ -1,13 +1,11 @@
-//! A conversation over the database behind a connection, which is handed back.
-ghost use Rattle.std.specs.Prelude.{◌≡◌, ◌≢◌, ◌↔◌, false, Err, IfErr, IfOk, IsTrue};
-ghost use Rattle.sqlite.specs.Held.{state};
+//! A conversation over the store behind a connection, which is handed back.
+ghost use Rattle.std.specs.Prelude.{◌≡◌, false, IfErr, IfOk};
 ghost use Rattle.gaz_register.specs.Texts.{register_text};
 ghost use Rattle.gaz_keeper.specs.Keeper.{IsNotOpen};
-ghost use Rattle.gaz_kept.specs.Opening.{has_any};
 ghost use Rattle.gaz_store.specs.Store.{progress_of};
 ghost use Rattle.gaz_exchange.specs.Conversing.{StopsByFault, transfer};
-ghost use Rattle.gaz_stored.specs.Answering.{HoldsNone};
-ghost use Rattle.gaz_stored.specs.Using.{UsedAs, UsesMade, seen_as};
+ghost use Rattle.gaz_stored.specs.Answering.{IsUnheard};
+ghost use Rattle.gaz_stored.specs.Using.{LacksStore, UsedAs, UsesOpened, seen_as};
 ghost use Rattle.gaz_stored.specs.Ways.{Converses};
 
 use crate::handing::HandedBack;
@@ -15,7 +13,7 @@ use crate::keepers::converse_with;
 use gaz_exchange::{Served, Sink, Source, Stopped};
 use gaz_register::Register;
 use gaz_shelf::{MemShelf, Seed};
-use gaz_store::{OfRegister, Store, StoreRefusal};
+use gaz_store::{OfRegister, Store};
 use sqlite::{Alter, Connection};
 use std::alloc::Global;
 use std::marker::Brand;
@@ -41,14 +39,14 @@ fn converse_over<S: Alter + Drop, N: OfRegister, R: Source, W: Sink>(
     (left.into_connection(), at_hand, ended)
 }
 
-/// Makes a store of a register in the database behind a connection outside a transaction, beside
-/// whatever is there, and answers the requests of a stream over it, at most `most` of them. All is
-/// read from memory, where that allows. It stops only where the reader or the writer failed. Who
-/// picks keys is not to foresee the seed.
+/// Takes the database behind a connection outside a transaction as the store of a register, and
+/// answers the requests of a stream over it, at most `most` of them. All is read from memory, where
+/// that allows. It stops only where the reader or the writer failed. Who picks keys is not to
+/// foresee the seed.
 ///
-/// `BadSchema` where a table named as one of a store's is there; `Fault` where memory or the
-/// database failed. No conversation is held then, and the database holds what it held.
-pub fn answer_new<S: Alter + Drop, R: Source, W: Sink>(
+/// There is no store in the cases of `ask_opened`, in its order. Nothing is read or written then,
+/// and the database holds what it held.
+pub fn converse_opened<S: Alter + Drop, R: Source, W: Sink>(
     alloc: Global,
     seed: Seed,
     conn: Connection<S>,
@@ -59,17 +57,15 @@ pub fn answer_new<S: Alter + Drop, R: Source, W: Sink>(
 ) -> HandedBack<S, Result<Served, Stopped>>
     requires { conn.in_transaction ≡ false }
     ensures over { result.conn.in_transaction ≡ false }
-    ensures answers { IfOk result.told (λ ended.
-        UsesMade S.Store register (Converses (seen_as (register_text register)) register most
+    ensures converses { IfOk result.told (λ ended. UsesOpened S.Store register
+        (Converses (seen_as (register_text register)) register most
         (transfer R.remaining W.contents r.old r.new w.old w.new) ended) conn result.conn) }
-    ensures named { (result.told ≡ Err StoreRefusal.BadSchema)
-        ↔ IsTrue (has_any (state S.Store conn).now.schema) }
-    ensures causes { result.told ≢ Err StoreRefusal.OtherRegister }
     ensures failed { IfOk result.told (StopsByFault R.failed W.failed r.new w.new) }
-    ensures refused { IfErr result.told (λ _. HoldsNone S.Store
-        (transfer R.remaining W.contents r.old r.new w.old w.new) conn result.conn) }
+    ensures unheard { IfErr result.told (λ _. IsUnheard
+        (transfer R.remaining W.contents r.old r.new w.old w.new)) }
+    ensures lacks { LacksStore S.Store register conn result.conn result.told }
 {
-    match Store::create(alloc, seed, conn, &register) {
+    match Store::open(alloc, seed, conn, &register) {
         Ok(store) => {
             let (conn, at_hand, ended) = converse_over::<_, Brand, _, _>(
                 alloc, seed, store, register, r, w, most,

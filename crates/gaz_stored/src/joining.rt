@@ -3,8 +3,7 @@ ghost use Rattle.std.specs.Prelude.{◌≡◌, None};
 ghost use Rattle.std.specs.Option.{ForSome};
 ghost use Rattle.gaz_keeper.specs.Keeper.{Idle};
 ghost use Rattle.gaz_keeper.specs.Telling.{IsNotJudging};
-ghost use Rattle.gaz_hub.specs.Hubs.{door_of};
-ghost use Rattle.gaz_hub.specs.Laws.{StandsForRun};
+ghost use Rattle.gaz_hub.specs.Hubs.{StandsFor, door_of};
 ghost use Rattle.gaz_mirror.specs.Mirrored.{seen_mirrored};
 ghost use Rattle.gaz_stored.specs.Filling.{CanBeMirrored, RestsBare};
 ghost use Rattle.gaz_stored.specs.Ways.{BeginsOver};
@@ -49,7 +48,7 @@ pub fn mirrored<L: Listed + Drop>(
     ensures idle { IsNotJudging seen_mirrored result.keeper }
     ensures stands { RestsBare L.seen → CanBeMirrored (door_of register) (L.seen keeper)
         → (seen_mirrored result.keeper).unharmed
-        → StandsForRun (door_of register) (seen_mirrored result.keeper) }
+        → StandsFor (door_of register) (seen_mirrored result.keeper) }
 {
     let mut lower = keeper;
     let upper = fill(alloc, seed, &register, &mut lower);

@@ -1,5 +1,6 @@
 //! What a reader of the definitions may rely on.
 ghost use Rattle.sqlite.specs.Held.{Held, state};
+ghost use Rattle.gaz_store.specs.Opened.{IsRefused};
 ghost use Rattle.gaz_store.specs.Seen.{IsUnharmed};
 ghost use Rattle.gaz_stored.specs.CallExamples.{WorkedCalls};
 ghost use Rattle.gaz_stored.specs.Calls.{CallsAreOne};
@@ -9,7 +10,6 @@ ghost use Rattle.gaz_stored.specs.FillingExamples.{WorkedFilling};
 ghost use Rattle.gaz_stored.specs.MeetingExamples.{WorkedMeetings};
 ghost use Rattle.gaz_stored.specs.Migrating.{MigratedStands};
 ghost use Rattle.gaz_stored.specs.Reopening.{OpensAgain};
-ghost use Rattle.gaz_stored.specs.Using.{LeavesStore};
 
 use gaz_keeper::Inbox;
 use sqlite::Alter;
@@ -26,8 +26,8 @@ pub fn worked_filling()
 
 /// What calls one after another ask and leave, on worked examples.
 pub fn worked_calls<S: Alter>()
-    ensures { (conn : Held S) (leaves : LeavesStore S.Store conn conn)
-        (fine : IsUnharmed (state S.Store conn)) → WorkedCalls S.Store conn leaves fine }
+    ensures { (conn : Held S) (refused : IsRefused S.Store conn conn)
+        (fine : IsUnharmed (state S.Store conn)) → WorkedCalls S.Store conn refused fine }
 {}
 
 /// Which peers came, and that nobody serves who met none, on worked examples.

@@ -1,5 +1,5 @@
-//! A hub over the store behind a connection: a conversation over one that is made, one call, and
-//! peers that come one after another; a store's register grows, and one of schema 1 is migrated.
+//! A hub over the store behind a connection: a conversation, one call, and peers that come one
+//! after another; a store's register grows, and one of schema 1 is migrated.
 #![tactic(auto)]
 
 mod answering;
@@ -15,7 +15,7 @@ pub mod laws;
 mod migrating;
 mod peers;
 
-pub use answering::answer_new;
+pub use answering::converse_opened;
 pub use asking::ask_opened;
 pub use attending::{Unserved, serve_opened};
 pub use connections::MOST_REQUESTS;

@@ -1,8 +1,7 @@
 //! The store of schema 1 behind a connection becomes one of schema 2; the connection is handed
 //! back.
-ghost use Rattle.std.specs.Prelude.{◌≡◌, false, IfErr, IfOk};
+ghost use Rattle.std.specs.Prelude.{◌≡◌, false, IfOk};
 ghost use Rattle.gaz_stored.specs.Migrating.{LacksBoth, MigratesOpened, StopsMoving, told_of};
-ghost use Rattle.gaz_stored.specs.Using.{LeavesStore};
 
 use gaz_kept::migrating::is_first;
 use gaz_register::Register;
@@ -47,7 +46,6 @@ pub fn migrate_opened<S: Alter + Drop>(
     ensures over { result.0.in_transaction ≡ false }
     ensures migrates { IfOk result.1 (MigratesOpened S.Store register.now conn result.0) }
     ensures lacks { LacksBoth S.Store register.now conn result.0 result.1 }
-    ensures untouched { IfErr result.1 (λ _. LeavesStore S.Store conn result.0) }
     ensures stops { StopsMoving S.Store register.now conn result.0 }
 {
     let first = is_first(&conn);

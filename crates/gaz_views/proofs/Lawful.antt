@@ -1,18 +1,22 @@
 -- Views that keep to the laws of a gazetteer.
-use Rattle.std.proofs.Common.{◌≡◌, ◌∙◌, ◌||◌, Bool, true, false, cond, sym, ap, subst, refl, is_some, true≢false}
+use Rattle.std.proofs.Common.{◌≡◌, ◌∙◌, ◌||◌, ℕ, Bool, true, false, cond, sym, ap, subst, refl, is_some, true≢false}
+use Rattle.std.proofs.lemmas.Bool.{or_right}
 use Rattle.std.specs.Prelude.{Option, Some, None}
 use Rattle.std.specs.FinMap as finite
 use Rattle.std.specs.FinSet as set
 use Rattle.std.specs.Ordering.{eq_by_cmp}
 use Rattle.gaz_records.proofs.KeyOrder.{keys_total}
+use Rattle.gaz_records.specs.Blpus.{BlpuValue}
 use Rattle.gaz_records.specs.Items.{is_entry}
 use Rattle.gaz_records.specs.Keys.{key_cmp, key_of}
 use Rattle.gaz_records.specs.declared.item.Item.{Item}
+use Rattle.gaz_records.specs.declared.item.Item.TheVariants as item
 use Rattle.gaz_records.specs.declared.key.Key.{Key}
+use Rattle.gaz_records.specs.declared.key.Key.TheVariants as key
 use Rattle.gaz_views.proofs.Emptiness.{get_none}
 use Rattle.gaz_views.proofs.SameKeys.{same_key}
 use Rattle.gaz_views.specs.Lawful.{IsLawfulView}
-use Rattle.gaz_views.specs.View.{View, empty_view, holds, was_used, with_item, without_key}
+use Rattle.gaz_views.specs.View.{View, empty_view, holds, was_used, with_adoption, with_item, with_release, without_key}
 
 pub lawful_empty : IsLawfulView empty_view
 lawful_empty = record {
@@ -73,3 +77,17 @@ lawful_taken v key was = record { entries = entries; keyed = keyed; used = used 
         by_tie : (b : Bool) → is_some (cond b None (finite.get v.items k)) ≡ true → was_used v k ≡ true
         by_tie true is = absurd (true≢false (sym is))
         by_tie false is = was.used k is
+
+-- a number is given away: its property is taken, and it stays used
+pub lawful_released : (v : View) (uprn to hop : ℕ) → IsLawfulView v → IsLawfulView (with_release v uprn to hop)
+lawful_released v uprn to hop was =
+    let gone = lawful_taken v (key.Blpu uprn) was in
+    record {
+      entries = gone.entries;
+      keyed = gone.keyed;
+      used = λ k there. set.contains-insert keys_total v.used (key.Blpu uprn) k ∙ or_right (eq_by_cmp key_cmp k (key.Blpu uprn)) (set.contains v.used k) (gone.used k there);
+    }
+
+-- a property that is taken over is put
+pub lawful_adopted : (v : View) (b : BlpuValue) (from hop : ℕ) → IsLawfulView v → IsLawfulView (with_adoption v b from hop)
+lawful_adopted v b from hop was = let put = lawful_put v (item.Blpu b) refl was in record { entries = put.entries; keyed = put.keyed; used = put.used }

@@ -6,14 +6,14 @@ use Rattle.sqlite.specs.Held.{Held}
 use Rattle.sqlite_disk.specs.declared.Disk as disk
 use Rattle.sqlite_disk.specs.declared.Files.{Files}
 use Rattle.sqlite_store.specs.declared.store.FileStore.{FileStore}
-use Rattle.gaz_kept.specs.Opening.{has_any}
+use Rattle.gaz_kept.specs.Opening.{Untouched, has_any}
 use Rattle.gaz_kept.specs.declared.refusal.StoreRefusal.{StoreRefusal}
 use Rattle.gaz_kept.specs.declared.refusal.StoreRefusal.TheVariants.{BadSchema, OtherRegister, Fault}
 use Rattle.gaz_register.specs.Registers.{RegisterValue}
 use Rattle.gaz_store.specs.Opened.{IsRefused, answer_of}
 use Rattle.gaz_store.specs.declared.store.Store.{Store}
 use Rattle.gaz_stored.specs.Migrating.{LacksBoth, StopsMoving}
-use Rattle.gaz_stored.specs.Using.{LacksStore, LeavesStore}
+use Rattle.gaz_stored.specs.Using.{LacksStore}
 use Rattle.gaz_stored.specs.declared.migrating.Migration.{Migration}
 use Rattle.gazhub.specs.Filing.{Closes, Connects, FindsTables, MakesNone, MigratesNone, OpensNone, OverFiles}
 
@@ -26,15 +26,16 @@ module _ {D : Type 0} (g : disk.Ghosts D) (files : Files D) (left : Option (File
     opens_none (Ok told) lacks = tt
     opens_none (Err refusal) lacks = inr (over _ (lacks.refused, (lacks.rows, lacks.untouched)))
 
-    pub migrates_none : (held : Result Migration StoreRefusal) → StopsMoving over_files register conn back → LacksBoth over_files register conn back held → IfErr held (λ _. LeavesStore over_files conn back) → IfErr held (MigratesNone g files left register)
-    migrates_none (Ok told) stops lacks leaves = tt
-    migrates_none (Err refusal) stops lacks leaves = inr (over _ (lacks.refused, record { told = lacks.rows; told_first = lacks.rows_first; untouched = leaves; stops = stops }))
+    pub migrates_none : (held : Result Migration StoreRefusal) → StopsMoving over_files register conn back → LacksBoth over_files register conn back held → IfErr held (MigratesNone g files left register)
+    migrates_none (Ok told) stops lacks = tt
+    migrates_none (Err refusal) stops lacks = inr (over _ (lacks.refused, record { told = lacks.rows; told_first = lacks.rows_first; stops = stops }))
 
   -- why none was made
   module _ (result : Result (Store (FileStore D g) Brand over_files) (Held (FileStore D g) × StoreRefusal)) (refused : IsRefused over_files conn back)
-      (named : (answer_of result ≡ Err BadSchema) ↔ IsTrue (has_any (file_state conn).now.schema)) (causes : answer_of result ≢ Err OtherRegister) where
+      (named : (answer_of result ≡ Err BadSchema) ↔ IsTrue (has_any (file_state conn).now.schema)) (causes : answer_of result ≢ Err OtherRegister)
+      (untouched : IsTrue (has_any (file_state conn).now.schema) → Untouched over_files conn back) where
     finds_tables : (refusal : StoreRefusal) → result ≡ Err (back, refusal) → FindsTables g files left refusal conn back
-    finds_tables BadSchema is = inr (refl, named.0 (rw is refl))
+    finds_tables BadSchema is = let any = named.0 (rw is refl) in inr (refl, any, untouched any)
     finds_tables OtherRegister is = absurd (causes (rw is refl))
     finds_tables Fault is = inl refl
 

@@ -22,7 +22,7 @@ use Rattle.gaz_stored.specs.Reopening.{HasStoreOf}
 use Rattle.gaz_stored.specs.Runs.{GoesOn}
 use Rattle.gaz_hub.specs.Step.{new_hub}
 use Rattle.gazhub.specs.Filing.{Closes, Connects}
-use Rattle.gazhub.specs.Joined.{BehindRefusal, CallsAreOne, FileCall, FollowOn, Given, IsGiven, IsPassedOn, NextOpens, call_over, came_over}
+use Rattle.gazhub.specs.Joined.{CallsAreOne, FileCall, FollowOn, IsGiven, IsPassedOn, NextOpens, call_over, came_over}
 
 module _ {D : Type 0} (g : disk.Ghosts D) where
   -- what a connection that was closed held, the next one shows
@@ -41,9 +41,7 @@ module _ {D : Type 0} (g : disk.Ghosts D) where
 
   -- a call that is given the files shows it
   given_shows : (next : FileCall g) (old : Held (FileStore D g)) (left : Option (Files D)) → IsUnharmed (file_state old) → Closes g old left → IsGiven g next left → (file_state (came_over g next.call).conn).now ≡ (file_state old).now
-  given_shows next old given fine closes (Given clean) = shown_again old (came_over g next.call).conn next.files fine closes (came_over g next.call).connects clean
-  given_shows next old given fine closes (BehindRefusal files left over clean unharmed later) =
-      given_shows next over.after left unharmed over.closes later ∙ (over.does.rests unharmed.clean).now unharmed.is_open ∙ shown_again old over.conn files fine closes over.connects clean
+  given_shows next old left fine closes given = shown_again old (came_over g next.call).conn next.files fine (subst (Closes g old) given.0 closes) (came_over g next.call).connects given.1
 
   -- so each finds what is found after the one before
   passes_on : (before after : Held (FileStore D g)) (found : Database) (is_found : IsFoundAfter (over_files {D = D} {g = g}) before after found) (left : Option (Files D)) (next : FileCall g) → Closes g after left → IsPassedOn g is_found left next
@@ -63,8 +61,9 @@ module _ {D : Type 0} (g : disk.Ghosts D) where
         calling.calls_are_one (over_files {D = D} {g = g}) register (file_state (came_over g first.call).conn).now (map (call_over g) (first ∷ later)) is store (refl, follow_on first later follow);
     behind = λ register old left first later is store fine closes given follow.
         calling.calls_are_one (over_files {D = D} {g = g}) register (file_state old).now (map (call_over g) (first ∷ later)) is store (given_shows first old left fine closes given, follow_on first later follow);
-    made = λ register files left conn after makes room fine.
-        let alone = made_alone register conn makes.store makes.made room (subst (λ k. IsUnharmed (file_state k)) (sym makes.back) fine) in
+    made = λ register files left conn after makes room clean.
+        let fine = subst (λ k. HasCleanDisk (file_state k)) (sym makes.back) clean in
+        let alone = made_alone register conn makes.store makes.made room (record { clean = fine; is_open = makes.made.is_open fine }) in
         subst (λ k. GoesOn register new_hub [] [] (file_state k).now) makes.back alone;
   }
 

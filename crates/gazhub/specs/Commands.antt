@@ -15,6 +15,7 @@ use Rattle.gaz_exchange.specs.Sending.{IsPut}
 use Rattle.gaz_exchange.specs.declared.conversation.Served.{Served}
 use Rattle.gaz_exchange.specs.declared.supply.Cause.{Cause}
 use Rattle.gaz_exchange.specs.declared.supply.Cause.TheVariants as cause
+use Rattle.gaz_stored.specs.Answering.{IsUnheard}
 use Rattle.gaz_words.specs.Meaning.{Means}
 use Rattle.gaz_words.specs.Words.{asks_play}
 use Rattle.gaz_words.specs.declared.command.Command.{Command}
@@ -32,10 +33,6 @@ use Rattle.gazhub.specs.declared.ending.Ending.TheVariants.{Done, NotDone, Usage
 use Rattle.gazhub.specs.declared.ending.Ending.TheVariants.{ReadFault, WriteFault, NoHub, Failed}
 use Rattle.gazhub.specs.declared.files.NoHub.{NoHub as WhyNoHub}
 
--- nothing was read or written
-abbrev pub Rests : Transfer → Type 0
-Rests through = Keeps through.had through.left × Keeps through.held through.holds
-
 -- a conversation stopped for this cause
 abbrev pub StopsFor : Cause → List ℕ → ℕ → Transfer → Type 0
 StopsFor why text most through =
@@ -45,7 +42,7 @@ StopsFor why text most through =
 -- requests
 abbrev pub Holds : List ℕ → ℕ → Transfer → Ending → Type 0
 Holds text most through Done = (served : Served) × Plays text most through (Ok served)
-Holds text most through Memory = Rests through
+Holds text most through Memory = IsUnheard through
 Holds text most through ReadFault = StopsFor cause.ReadFault text most through
 Holds text most through WriteFault = StopsFor cause.WriteFault text most through
 Holds text most through _ = ⊥
@@ -142,8 +139,8 @@ module _ {S D : Type 0} (done : S → Deed D → S → Type 0) (g : disk.Ghosts 
   -- how the program ends by its words, none where they can't be read, and by whether the system
   -- gave random bytes
   abbrev pub Ends : Option (List (List ℕ)) → Bool → Ending → Type 0
-  Ends None random ending = ((ending ≡ ReadFault) × Rests through) × (after ≡ before)
-  Ends (Some words) false ending = ((ending ≡ ReadFault) × Rests through) × (after ≡ before)
+  Ends None random ending = ((ending ≡ ReadFault) × IsUnheard through) × (after ≡ before)
+  Ends (Some words) false ending = ((ending ≡ ReadFault) × IsUnheard through) × (after ≡ before)
   Ends (Some words) true ending = EndsAtWords words (asks_play words) ending
 
 -- how the program ends, where `clap` may have told of the usage instead

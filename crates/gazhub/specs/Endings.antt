@@ -15,7 +15,12 @@ abbrev pub status_of : Ending → ℕ
 status_of ending.Done = 0
 status_of ending.NotDone = 1
 status_of ending.Usage = 2
-status_of _ = 3
+status_of ending.Memory = 3
+status_of ending.ReadFault = 3
+status_of ending.WriteFault = 3
+status_of (ending.NoHub why) = 3
+status_of (ending.Lost why) = 3
+status_of (ending.Failed why) = 3
 
 -- the line that names the fault of a register
 abbrev pub register_line : RegFault → List ℕ
@@ -51,7 +56,9 @@ line_of ending.WriteFault = codes "gazhub: WriteFault\n"
 line_of (ending.NoHub why) = no_hub_line why
 line_of (ending.Lost why) = no_hub_line why
 line_of (ending.Failed why) = error_line why
-line_of _ = []
+line_of ending.Done = []
+line_of ending.NotDone = []
+line_of ending.Usage = []
 
 -- nothing is printed on standard output: at usage, and at each fault but that of the output and
 -- that of a hub that was lost
@@ -60,4 +67,8 @@ is_silent ending.Done = false
 is_silent ending.NotDone = false
 is_silent ending.WriteFault = false
 is_silent (ending.Lost why) = false
-is_silent _ = true
+is_silent ending.Usage = true
+is_silent ending.Memory = true
+is_silent ending.ReadFault = true
+is_silent (ending.NoHub why) = true
+is_silent (ending.Failed why) = true

@@ -14,8 +14,8 @@ use Rattle.sqlite_trees.specs.View.{IsClean}
 use Rattle.sqlite_wal.specs.Reads.{AreClean}
 use Rattle.gaz_register.specs.Registers.{RegisterValue}
 use Rattle.gaz_register.specs.Texts.{register_text}
-use Rattle.gaz_kept.specs.Opening.{Tells, has_any}
-use Rattle.gaz_kept.specs.OpeningFirst.{TellsFirst, Untouched}
+use Rattle.gaz_kept.specs.Opening.{Tells, Untouched, has_any}
+use Rattle.gaz_kept.specs.OpeningFirst.{TellsFirst}
 use Rattle.gaz_kept.specs.declared.refusal.StoreRefusal.{StoreRefusal}
 use Rattle.gaz_kept.specs.declared.refusal.StoreRefusal.TheVariants.{BadSchema, Fault}
 use Rattle.gaz_store.specs.Opened.{IsMade, IsRefused}
@@ -26,7 +26,7 @@ use Rattle.gaz_hub.specs.Step.{Command}
 use Rattle.gaz_stored.specs.Extending.{ExtendsOpened}
 use Rattle.gaz_stored.specs.Meetings.{Meeting}
 use Rattle.gaz_stored.specs.Migrating.{MigratesOpened, StopsMoving}
-use Rattle.gaz_stored.specs.Using.{LeavesStore, UsesOpened, seen_as}
+use Rattle.gaz_stored.specs.Using.{UsesOpened, seen_as}
 use Rattle.gaz_stored.specs.Ways.{Asks, Attends, Way}
 use Rattle.gaz_stored.specs.declared.attending.Unserved.{Unserved}
 use Rattle.gaz_stored.specs.declared.migrating.Migration.{Migration}
@@ -83,10 +83,11 @@ module _ {D : Type 0} (g : disk.Ghosts D) where
     abbrev pub MakesStore : RegisterValue → Said → Type 0
     MakesStore register answer = (answer ≡ said.Line Ready) × OverFiles (Makes register)
 
-    -- making one failed, or a table of such a name is there
+    -- making one failed; or a table of such a name is there, and nothing is written
     abbrev pub FindsTables : StoreRefusal → Held (FileStore D g) → Held (FileStore D g) → Type 0
     FindsTables refusal conn back = (refusal ≡ Fault)
-        ⊎ ((refusal ≡ BadSchema) × IsTrue (has_any (file_state conn).now.schema))
+        ⊎ ((refusal ≡ BadSchema) × IsTrue (has_any (file_state conn).now.schema)
+        × Untouched over_files conn back)
 
     abbrev pub MakesNone : StoreRefusal → Type 0
     MakesNone refusal = Declines refusal (FindsTables refusal)
@@ -128,13 +129,11 @@ module _ {D : Type 0} (g : disk.Ghosts D) where
     abbrev pub MigratesStore : RegisterValue → Migration → Type 0
     MigratesStore register told = OverFiles (MigratesOver register told)
 
-    -- there is none of either schema: that is told of the row of `meta`, and a store that is there
-    -- is left as it was
+    -- there is none of either schema: that is told of the row of `meta`
     pub record Refuses (register : RegisterValue) (refusal : StoreRefusal)
         (conn back : Held (FileStore D g)) : Type 0 where
       pub told : Tells over_files conn back (Err refusal) (register_text register)
       pub told_first : TellsFirst over_files conn back (Err refusal) (register_text register)
-      pub untouched : LeavesStore over_files conn back
       pub stops : StopsMoving over_files register conn back
 
     abbrev pub MigratesNone : RegisterValue → StoreRefusal → Type 0

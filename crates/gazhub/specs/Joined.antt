@@ -21,7 +21,6 @@ use Rattle.gaz_stored.specs.Calls.{Refused, Used, Whole}
 use Rattle.gaz_stored.specs.Meetings.{Meeting}
 use Rattle.gaz_stored.specs.Reopening.{HasStoreOf, OpensThen}
 use Rattle.gaz_stored.specs.Runs.{GoesOn, IsStoreOf}
-use Rattle.gaz_stored.specs.Using.{LeavesStore}
 use Rattle.gaz_stored.specs.declared.attending.Unserved.{Unserved}
 use Rattle.gaz_stored.specs.declared.migrating.Migration.{Migration}
 use Rattle.gazhub.specs.Filing.{AsksStore, Closes, Connects, ExtendsStore, Makes, MigratesStore}
@@ -33,8 +32,7 @@ module _ {D : Type 0} (g : disk.Ghosts D) where
   shown = over_files
 
   -- a call over files that it was given and those that it gave back, as its contract says: it asked
-  -- a hub, answered connections, let a register grow or migrated a store; or a store that was there
-  -- was left as it was
+  -- a hub, answered connections, let a register grow or migrated a store; or it was refused
   pub data CallOver (files : Files D) (left : Option (Files D)) : Type 0 where
     Asked : (register : RegisterValue) (call : Result Command Said) (answer : Said)
         → IsRegister register → AsksStore g files left register call answer → CallOver files left
@@ -46,7 +44,7 @@ module _ {D : Type 0} (g : disk.Ghosts D) where
         → ExtendsStore g files left register grown told → CallOver files left
     Migrated : (register : RegisterValue) (told : Migration)
         → MigratesStore g files left register told → CallOver files left
-    Declined : OverFiles g files left (LeavesStore shown) → CallOver files left
+    Declined : OverFiles g files left (IsRefused shown) → CallOver files left
 
   -- what was done over a connection is said otherwise
   abbrev said_as : {files : Files D} {left : Option (Files D)}
@@ -72,7 +70,7 @@ module _ {D : Type 0} (g : disk.Ghosts D) where
       said_as (λ _ _ it. Grew register grown told is are it) extends
   came_over (Migrated register told migrates) =
       said_as (λ _ _ it. Moved register told it.migrates) migrates
-  came_over (Declined leaves) = said_as (λ _ _ it. Refused it) leaves
+  came_over (Declined refused) = said_as (λ _ _ it. Refused it) refused
 
   -- a call, and what is found after it
   pub record FileCall : Type 0 where
@@ -93,14 +91,10 @@ module _ {D : Type 0} (g : disk.Ghosts D) where
         is_found = it.is_found;
       }
 
-  -- it was given these files, on a disk that returned what was written, or what a making of a store
-  -- gave back that was given them and was refused, while no failure shut its connection
-  pub data IsGiven (next : FileCall) : Option (Files D) → Type 0 where
-    Given : HasCleanDisk (file_state (came_over next.call).conn) → IsGiven next (Some next.files)
-    BehindRefusal : (files : Files D) (left : Option (Files D))
-        (over : OverFiles g files left (IsRefused shown))
-        → HasCleanDisk (file_state over.conn) → IsUnharmed (file_state over.after)
-        → IsGiven next left → IsGiven next (Some files)
+  -- it was given these files, on a disk that returned what was written
+  abbrev pub IsGiven : FileCall → Option (Files D) → Type 0
+  IsGiven next left =
+      (left ≡ Some next.files) × HasCleanDisk (file_state (came_over next.call).conn)
 
   -- the next call was given the files that this one gave back; or it shows what a stop left of it
   abbrev pub IsPassedOn : {before after : Held (FileStore D g)} {found : Database}
@@ -135,7 +129,7 @@ module _ {D : Type 0} (g : disk.Ghosts D) where
     pub made : (register : RegisterValue) (files : Files D) (left : Option (Files D))
         (conn after : Held (FileStore D g))
         → Makes g files left register conn after → HasRoom (file_state conn).now.schema
-        → IsUnharmed (file_state after) → GoesOn register new_hub [] [] (file_state after).now
+        → HasCleanDisk (file_state after) → GoesOn register new_hub [] [] (file_state after).now
 
   -- whoever opens the files that were given back of a store under its register is told Ok or Fault
   abbrev pub NextOpens : Type 0

@@ -1,32 +1,36 @@
 -- A whole conversation of a hub over a store in memory that begins with nothing.
-use Rattle.std.specs.Prelude.{◌≡◌, ℕ, List, IsTrue, Result, Ok}
+use Rattle.std.specs.Prelude.{◌≡◌, ℕ, List, [], IsTrue, Result, Ok}
 use Rattle.std.specs.FinMap as map
 use Rattle.sqlite.specs.Files.{file_state, over_files}
-use Rattle.gaz_quiet.specs.Databases.{Quiet, no_tables}
+use Rattle.gaz_quiet.specs.Databases.{Quiet}
 use Rattle.gaz_register.specs.Reading.{register_of}
 use Rattle.gaz_register.specs.Registers.{RegisterValue}
 use Rattle.gaz_register.specs.Texts.{register_text}
 use Rattle.gaz_hub.specs.Answers.{AllAnswered}
 use Rattle.gaz_hub.specs.Hubs.{door_of}
 use Rattle.gaz_hub.specs.Runs.{Abides}
-use Rattle.gaz_hub.specs.Step.{HubState}
+use Rattle.gaz_hub.specs.Step.{HubState, new_hub}
 use Rattle.gaz_exchange.specs.Conversing.{Transfer}
 use Rattle.gaz_exchange.specs.declared.conversation.Served.{Served}
 use Rattle.gaz_exchange.specs.declared.conversation.Stopped.{Stopped}
-use Rattle.gaz_stored.specs.Runs.{hub_in}
-use Rattle.gaz_stored.specs.Using.{UsesMade, seen_as}
+use Rattle.gaz_stored.specs.Runs.{GoesOn, hub_in}
+use Rattle.gaz_stored.specs.Using.{UsesOpened, seen_as}
 use Rattle.gaz_stored.specs.Ways.{Converses}
 
--- a hub of the register that a text describes, over a store that is made in an empty database in
--- memory, answers at most so many requests
+-- a store of the register in memory, of which nothing was asked
+abbrev pub IsNew : RegisterValue → Quiet → Type 0
+IsNew register conn = GoesOn register new_hub [] [] (file_state conn).now
+
+-- a hub of the register that a text describes, over a new store in memory, answers at most so many
+-- requests
 pub record Plays (text : List ℕ) (most : ℕ) (through : Transfer) (ended : Result Served Stopped)
     : Type 0 where
   pub register : RegisterValue
   pub described : register_of text ≡ Ok register
   pub before : Quiet
   pub after : Quiet
-  pub empty : (file_state before).now.schema ≡ no_tables
-  pub uses : UsesMade over_files register (Converses (seen_as (register_text register)) register
+  pub new : IsNew register before
+  pub uses : UsesOpened over_files register (Converses (seen_as (register_text register)) register
       most through ended) before after
   -- step by step the hub went to one of which this is so: what was received is what came first, and
   -- the board is partial over it,

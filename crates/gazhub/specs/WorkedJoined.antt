@@ -4,16 +4,16 @@ use Rattle.sqlite.specs.Files.{file_state, over_files}
 use Rattle.sqlite.specs.State.{HasCleanDisk}
 use Rattle.sqlite_disk.specs.declared.Disk as disk
 use Rattle.sqlite_disk.specs.declared.Files.{Files}
+use Rattle.gaz_store.specs.Opened.{IsRefused}
 use Rattle.gaz_store.specs.Seen.{IsUnharmed}
 use Rattle.gaz_stored.specs.Calls.{Whole}
-use Rattle.gaz_stored.specs.Using.{LeavesStore}
 use Rattle.gazhub.specs.Filing.{OverFiles}
 use Rattle.gazhub.specs.Joined.{Declined, FileCall, FollowOn, IsGiven}
 
 module _ {D : Type 0} (g : disk.Ghosts D) where
-  -- a call that left a store as it was, on a disk that returned what was written, and gave back the
-  -- files that it was given
-  module _ (files : Files D) (over : OverFiles g files (Some files) (LeavesStore over_files))
+  -- a call that was refused, on a disk that returned what was written, and gave back the files that
+  -- it was given
+  module _ (files : Files D) (over : OverFiles g files (Some files) (IsRefused over_files))
       (fine : IsUnharmed (file_state over.after)) where
     abbrev pub in_vain : FileCall g
     in_vain = record {
@@ -26,7 +26,7 @@ module _ {D : Type 0} (g : disk.Ghosts D) where
 
   pub record WorkedJoined : Type 0 where
     pub none : (call : FileCall g) → FollowOn g call []
-    pub twice : (files : Files D) (over : OverFiles g files (Some files) (LeavesStore over_files))
+    pub twice : (files : Files D) (over : OverFiles g files (Some files) (IsRefused over_files))
         (fine : IsUnharmed (file_state over.after)) → HasCleanDisk (file_state over.conn)
         → FollowOn g (in_vain files over fine) (in_vain files over fine ∷ [])
     -- no files were given back

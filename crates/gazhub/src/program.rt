@@ -1,18 +1,22 @@
 //! A conversation of a hub that begins with nothing.
-ghost use Rattle.std.specs.Prelude.{◌≡◌, IfSome, None, Ok};
+ghost use Rattle.std.specs.Prelude.{◌≡◌, false, IfSome, None, Ok};
 ghost use Rattle.gaz_register.specs.Reading.{register_of};
 ghost use Rattle.gaz_exchange.specs.Conversing.{StopsByFault, transfer};
-ghost use Rattle.gazhub.specs.Commands.{Holds, Rests};
-ghost use Rattle.gazhub.specs.Playing.{Plays};
+ghost use Rattle.gaz_stored.specs.Answering.{IsUnheard};
+ghost use Rattle.gazhub.specs.Commands.{Holds};
+ghost use Rattle.gazhub.specs.Playing.{IsNew, Plays};
 
 use crate::ending::Ending;
 use crate::sample::SAMPLE;
 use gaz_exchange::{Cause, Served, Sink, Source, Stopped};
 use gaz_ledger::Seed;
-use gaz_quiet::new_database;
+use gaz_quiet::{QuietDisk, new_database};
 use gaz_register::Register;
-use gaz_stored::{HandedBack, answer_new};
+use gaz_store::Store;
+use gaz_stored::{HandedBack, converse_opened};
+use sqlite::{Connection, FileStore};
 use std::alloc::Global;
+use std::marker::Brand;
 use std::mem::forget;
 
 /// The most requests of one run.
@@ -24,6 +28,24 @@ fn sample_register(alloc: Global) -> Option<Register>
 {
     match Register::read(alloc, SAMPLE.as_bytes()) {
         Ok(register) => Some(register),
+        Err(_) => None,
+    }
+}
+
+// A store of the register in memory, of which nothing was asked, where there is memory for it.
+fn new_store(
+    alloc: Global,
+    seed: Seed,
+    register: &Register,
+) -> Option<Connection<FileStore<QuietDisk>>>
+    ensures outside { IfSome result (λ conn. conn.in_transaction ≡ false) }
+    ensures new { IfSome result (IsNew register.now) }
+{
+    let Some(conn) = new_database(alloc) else {
+        return None;
+    };
+    match Store::<_, Brand>::create(alloc, seed, conn, register) {
+        Ok(store) => Some(store.into_connection()),
         Err(_) => None,
     }
 }
@@ -45,20 +67,20 @@ pub fn answer_all<R: Source, W: Sink>(
     ensures plays { IfSome result (Plays SAMPLE.now MOST
         (transfer R.remaining W.contents r.old r.new w.old w.new)) }
     ensures failed { IfSome result (StopsByFault R.failed W.failed r.new w.new) }
-    ensures rests { result ≡ None → Rests
+    ensures unheard { result ≡ None → IsUnheard
         (transfer R.remaining W.contents r.old r.new w.old w.new) }
 {
     let Some(register) = sample_register(alloc) else {
         return None;
     };
-    let Some(conn) = new_database(alloc) else {
+    let Some(conn) = new_store(alloc, seed, &register) else {
         return None;
     };
     let HandedBack {
         conn,
         at_hand,
         told,
-    } = answer_new(alloc, seed, conn, register, r, w, MOST);
+    } = converse_opened(alloc, seed, conn, register, r, w, MOST);
     // The program ends, and the system takes back at once what would take longer to free piece by
     // piece.
     forget(conn);

@@ -1,5 +1,5 @@
 use Rattle.std.proofs.Common.{sym, arith}
-use Rattle.gaz_extract.proofs.Readings.{keeps_itself}
+use Rattle.gaz_keeper.proofs.Keeping.{keeps_itself}
 use Rattle.gaz_extract.proofs.Remembering.{one_more}
 use Rattle.gaz_extract.proofs.streets.is_closed_elsewhere.Goals as goal
 

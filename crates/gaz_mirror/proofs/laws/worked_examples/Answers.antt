@@ -1,9 +1,6 @@
 use Rattle.std.proofs.Common.{◌≡◌, ◌≢◌, ◌∙◌, ℕ, List, [], Some, zero, suc, true, false, sym, ap, refl, subst, is_some}
-use Rattle.std.proofs.lemmas.Bool.{or_right}
 use Rattle.std.specs.Cmp.{nat_cmp_total}
 use Rattle.std.specs.FinMap as finite
-use Rattle.std.specs.FinSet as set
-use Rattle.std.specs.Ordering.{eq_by_cmp}
 use Rattle.gaz_keeper.proofs.Examples.{worked_examples_hold}
 use Rattle.gaz_keeper.proofs.Pairs.{pairs_total}
 use Rattle.gaz_keeper.specs.Received.{pair_cmp}
@@ -13,11 +10,9 @@ use Rattle.gaz_mirror.specs.Examples.{WorkedGathered}
 use Rattle.gaz_mirror.specs.Gathering.{made}
 use Rattle.gaz_mirror.specs.declared.gathered.Gathered.{Gathered}
 use Rattle.gaz_records.proofs.KeyOrder.{keys_total}
-use Rattle.gaz_records.specs.Keys.{key_cmp}
-use Rattle.gaz_records.specs.declared.item.Item.TheVariants as item
 use Rattle.gaz_records.specs.declared.key.Key.TheVariants as key
 use Rattle.gaz_views.proofs.CustodyExamples.{custody_holds}
-use Rattle.gaz_views.proofs.Lawful.{lawful_empty, lawful_put, lawful_taken}
+use Rattle.gaz_views.proofs.Lawful.{lawful_adopted, lawful_empty, lawful_put, lawful_released, lawful_taken}
 use Rattle.gaz_views.specs.CustodyExamples.{alone, given_back, given_up, taken}
 use Rattle.gaz_views.specs.Examples.{no_more, one_street, street}
 use Rattle.gaz_views.specs.Lawful.{IsLawfulView}
@@ -67,17 +62,8 @@ to_another same = cc
 taken_told_apart : (v w : View) (to hop : ℕ) → with_adoption v alone 1001 1 ≢ with_release w 500 to hop
 taken_told_apart v w to hop = passed_apart _ _ (Adopted 1001 1) (Released to hop) (adopted_there v) (released_there w to hop) (adopted_or_released 1001 to 1 hop)
 
-lawful_taken_on : IsLawfulView taken
-lawful_taken_on = let put = lawful_put empty_view (item.Blpu alone) refl lawful_empty in record { entries = put.entries; keyed = put.keyed; used = put.used }
-
 lawful_given_back : IsLawfulView given_back
-lawful_given_back =
-    let gone = lawful_taken taken (key.Blpu 500) lawful_taken_on in
-    record {
-      entries = gone.entries;
-      keyed = gone.keyed;
-      used = λ k there. set.contains-insert keys_total taken.used (key.Blpu 500) k ∙ or_right (eq_by_cmp key_cmp k (key.Blpu 500)) (set.contains taken.used k) (gone.used k there);
-    }
+lawful_given_back = lawful_released taken 500 1001 2 (lawful_adopted empty_view alone 1001 1 lawful_empty)
 
 volume_1 : IsAtHand first_received 1001
 volume_1 = ap is_some (finite.get-insert pairs_total (finite.empty {X = List ℕ} {R = pair_cmp}) (1001, 1) [] (1001, 1))

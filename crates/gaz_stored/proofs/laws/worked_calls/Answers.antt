@@ -34,7 +34,7 @@ cuts_hold = record {
 }
 
 pub returns : goal.returns
-returns g c conn leaves fine = record {
+returns g c conn refused fine = record {
   nothing_asked = ([], [], refl, ([], [], refl, refl, refl), refl);
   asked = λ p are. none_asked p are.0 are.1 are.2 are.3 are.4;
   used = λ register first commands responses is uses. refl;
@@ -44,9 +44,14 @@ returns g c conn leaves fine = record {
   elsewhere = λ other follow. other follow.0;
   left = refl;
   left_by_none = refl;
+  of_nothing = λ register db it. let all = it.periods_are in all.4 ∙ joined all.2 (all.3.4 ∙ joined all.3.2 all.3.3);
+  of_one = λ register db call p only it. let all = it.periods_are in all.4 ∙ joined all.2 (all.3.4 ∙ joined (only all.3.0 all.3.2) all.3.3);
   shrinks = λ run. gone (run.1.custodians 1004 refl);
   cuts = cuts_hold;
 }
   where
+    joined : {first rest some more : List Period} → first ≡ some → rest ≡ more → first ++ rest ≡ some ++ more
+    joined e f = λ i. e i ++ f i
+
     none_asked : (p : Period) (first rest : List Period) → first ≡ [] → rest ≡ [] → ¬ (p ∷ [] ≡ first ++ rest)
     none_asked p first rest e f is = let no : p ∷ [] ≡ [] = is ∙ rw (e, f) refl in absurd (cc)

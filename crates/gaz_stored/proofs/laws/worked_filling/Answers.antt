@@ -17,7 +17,6 @@ use Rattle.gaz_keeper.specs.Received.{pair_cmp, with_file}
 use Rattle.gaz_hub.specs.Hubs.{door_of}
 use Rattle.gaz_hub.specs.Sample.{sample_custodians}
 use Rattle.gaz_hub.proofs.Headline.{may_begin}
-use Rattle.gaz_hub.proofs.Runs.{nothing_partial}
 use Rattle.gaz_stored.specs.Filling.{AreVolumes, RestsBare}
 use Rattle.gaz_stored.proofs.laws.worked_filling.Goals as goal
 
@@ -58,8 +57,8 @@ returns c = record {
   bare = λ k idle. refl;
   not_bare = not_bare;
   nothing_yet = record {
-    run = let d = door_of sample_custodians in record { stands = (lawful, may_begin d empty_content refl refl); partial = nothing_partial d };
+    run = (lawful, may_begin (door_of sample_custodians) empty_content refl refl);
     volumes = λ p some. none_there p some;
   };
-  of_nobody_known = λ can. let known = can.run.stands.1.known (1001, 1) (received 1) in absurd (true≢false (sym known));
+  of_nobody_known = λ can. let known = can.run.1.known (1001, 1) (received 1) in absurd (true≢false (sym known));
 }

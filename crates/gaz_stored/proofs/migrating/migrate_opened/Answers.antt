@@ -1,6 +1,6 @@
 use Rattle.std.proofs.Common.{Ok, Err, subst, sym}
 use Rattle.gaz_stored.specs.Migrating.{MigratesOpened, StopsMoving}
-use Rattle.gaz_stored.proofs.Moving.{migrates_opened, none_first, stops_moving}
+use Rattle.gaz_stored.proofs.Moving.{migrates_opened, stops_moving}
 use Rattle.gaz_stored.proofs.migrating.migrate_opened.Goals as goal
 
 pub returns-in-Ok-clause-migrates : goal.returns-in-Ok-clause-migrates
@@ -14,9 +14,6 @@ pub returns-in-Ok-clause-stops : goal.returns-in-Ok-clause-stops
 returns-in-Ok-clause-stops g c =
     subst (λ h. StopsMoving g.S.Store c.args.register.now c.args.conn h) (sym c.into_connection.ensures.conn)
     (stops_moving g.S.Store c.args.register.now c.args.conn c.in-Ok.store.tables.conn (Ok tt) c.in-Ok.ensures.leaves)
-
-pub returns-in-Err-clause-untouched : goal.returns-in-Err-clause-untouched
-returns-in-Err-clause-untouched g c = λ has. c.in-Err.ensures.untouched (none_first (g.S.Store) c.args.conn has)
 
 pub returns-in-Err-clause-stops : goal.returns-in-Err-clause-stops
 returns-in-Err-clause-stops g c =

@@ -10,4 +10,4 @@ returns-clause-migrates g c =
 pub returns-clause-none : goal.returns-clause-none
 returns-clause-none g c =
     let moved = c.migrate_opened-conn in
-    migrates_none _ c.args.files c.close-left.result c.in-Some.conn moved.result.0 c.in-Some.ensures c.close-left.ensures c.args.register.now moved.result.1 moved.ensures.stops moved.ensures.lacks moved.ensures.untouched
+    migrates_none _ c.args.files c.close-left.result c.in-Some.conn moved.result.0 c.in-Some.ensures c.close-left.ensures c.args.register.now moved.result.1 moved.ensures.stops moved.ensures.lacks

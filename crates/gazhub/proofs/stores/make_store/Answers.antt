@@ -15,4 +15,4 @@ returns-in-Ok-clause-made g c = (
 )
 
 pub returns-in-Err-clause-none : goal.returns-in-Err-clause-none
-returns-in-Err-clause-none g c = makes_none _ c.args.files c.close-left-in-Err.result c.in-Some.conn c.in-Err.conn c.in-Some.ensures c.close-left-in-Err.ensures _ c.in-Err.ensures.refused c.create.ensures.named c.create.ensures.causes _ c.in-Err.is
+returns-in-Err-clause-none g c = makes_none _ c.args.files c.close-left-in-Err.result c.in-Some.conn c.in-Err.conn c.in-Some.ensures c.close-left-in-Err.ensures _ c.in-Err.ensures.refused c.create.ensures.named c.create.ensures.causes c.in-Err.ensures.untouched _ c.in-Err.is

@@ -1,10 +1,10 @@
 -- The upper keeper was asked, or there is none; then all came below, and the lower one was asked.
 use Rattle.std.proofs.Common.{◌≡◌, ◌≤◌, ap, subst, sym}
 use Rattle.gaz_keeper.specs.Keeper.{Keeps}
-use Rattle.gaz_keeper.proofs.Keeping.{keeps_then}
+use Rattle.gaz_keeper.proofs.Keeping.{keeps_itself, keeps_then}
 use Rattle.gaz_mirror.specs.Mirrored.{seen_mirrored}
 use Rattle.gaz_mirror.specs.declared.mirror.Mirror.{Mirror}
-use Rattle.gaz_mirror.proofs.Readings.{keeps_all, keeps_asked, reads_behind, reads_settled}
+use Rattle.gaz_mirror.proofs.Readings.{keeps_asked, reads_behind, reads_settled}
 use Rattle.gaz_mirror.proofs.mirror.Mirror.read.Goals as goal
 use Rattle.gaz_mirror.proofs.mirror.Mirror.read.Goals.{in_default-via-in-None-1, in_default-via-in-Some+in-Err-1}
 
@@ -18,7 +18,7 @@ returns-2-clause-reads g c =
     let settled = c.settle.new.self in
     let P = g.Q.Question.is_right c.args.question.now in
     let tried : Keeps (seen_mirrored m) (seen_mirrored behind) = elim c.in_default.branch [
-      | in_default-via-in-None-1 w ↦ subst (λ (x : M). Keeps (seen_mirrored m) (seen_mirrored x)) (sym w.self-is) (keeps_all (seen_mirrored m))
+      | in_default-via-in-None-1 w ↦ subst (λ (x : M). Keeps (seen_mirrored m) (seen_mirrored x)) (sym w.self-is) (keeps_itself (seen_mirrored m))
       | in_default-via-in-Some+in-Err-1 w ↦ subst (λ (x : M). Keeps (seen_mirrored m) (seen_mirrored x)) (sym w.self-is)
           (keeps_asked up g.met.U.Unshared.never_harmed (low m.lower) m.upper w.in-Some.upper w.ask.new.keeper m.gathered w.in-Some.is w.ask.ensures.keeps)
     ] in

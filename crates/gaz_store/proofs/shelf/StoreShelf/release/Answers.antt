@@ -1,5 +1,5 @@
 use Rattle.std.proofs.Common.{◌∙◌, sym}
-use Rattle.gaz_overlay.proofs.Laid.{lawful_released}
+use Rattle.gaz_views.proofs.Lawful.{lawful_released}
 use Rattle.gaz_views.specs.View.{with_release}
 use Rattle.gaz_store.proofs.StoreCalls.{breaks, turns}
 use Rattle.gaz_store.proofs.shelf.StoreShelf.release.Goals as goal

@@ -7,9 +7,10 @@ use Rattle.gaz_tables.specs.Migrating.{HasFirstTables}
 use Rattle.gaz_tables.specs.Schema.{meta}
 use Rattle.gaz_tables.specs.Tables.{rows_of}
 use Rattle.gaz_kept.specs.Kept.{IsKept}
-use Rattle.gaz_kept.specs.Opening.{IsOf, Judges, Tells}
-use Rattle.gaz_kept.specs.OpeningFirst.{IsOfFirst, JudgesFirst, MayMove, Moves, TellsFirst, Untouched}
+use Rattle.gaz_kept.specs.Opening.{IsOf, Judges, Tells, Untouched}
+use Rattle.gaz_kept.specs.OpeningFirst.{IsOfFirst, JudgesFirst, MayMove, Moves, TellsFirst}
 use Rattle.gaz_kept.proofs.FirstTables.{is_first}
+use Rattle.gaz_kept.proofs.MetaRows.{none_first}
 use Rattle.gaz_kept.proofs.Moved.{clean_before}
 use Rattle.gaz_store.proofs.Beginning.{is_moved, is_opened}
 use Rattle.gaz_store.proofs.store.Store.migrate.Goals as goal
@@ -59,3 +60,8 @@ returns-in-Ok-clause-moved g c =
     (subst (λ h. Moves g.S.Store c.args.conn h (Ok tt) text) (sym c.over.ensures.conn) c.in-Ok.ensures.moved)
     (subst (λ h. HasCleanDisk (state g.S.Store h) → HasFirstTables was.now → IsOfFirst text (rows_of was.now meta)) (sym c.over.ensures.conn) (λ clean has. c.in-Ok.ensures.judged_first clean has))
     (subst (λ h. HasFirstTables was.now → LeavesTheCommit (state g.S.Store h)) (sym c.over.ensures.conn) (λ has. c.in-Ok.ensures.certain (is_first was.now has)))
+
+-- no store has the tables of schema 1 alone
+pub returns-in-Err-clause-refused : goal.returns-in-Err-clause-refused
+returns-in-Err-clause-refused g c =
+    record { over = c.in-Err.ensures.over; rests = c.in-Err.ensures.rests; leaves = λ has. (c.in-Err.ensures.untouched (none_first _ has.there)).leaves }

@@ -29,3 +29,7 @@ returns-in-Ok-clause-judged g c =
 pub returns-in-Ok-clause-leaves : goal.returns-in-Ok-clause-leaves
 returns-in-Ok-clause-leaves g c =
     subst (λ h. Survives (state g.S.Store c.args.conn) (state g.S.Store h) (λ _. ⊥)) (sym c.over.ensures.conn) c.in-Ok.ensures.leaves
+
+pub returns-in-Err-clause-refused : goal.returns-in-Err-clause-refused
+returns-in-Err-clause-refused g c =
+    record { over = c.in-Err.ensures.over; rests = c.in-Err.ensures.rests; leaves = λ _. c.in-Err.ensures.leaves }
