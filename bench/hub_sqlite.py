@@ -20,27 +20,13 @@ from hub_lines import line_of
 from hub_rules import judge
 from hub_views import ADOPTION, RELEASE, Custody, needed_by
 
-sys.path.append(os.path.dirname(os.path.dirname(os.path.abspath(__file__))))
+TOP = os.path.dirname(os.path.dirname(os.path.abspath(__file__)))
+sys.path.append(TOP)
 from checks.sample import TEXT  # noqa: E402
 
 MOST = 1_000_000  # requests of a run
 NEVER = 1_000_000  # `gone` of a row that is current
 LANGS = {"ENG": 1, "CYM": 2}
-TABLES = """
-CREATE TABLE version (cust INTEGER NOT NULL, kind INTEGER NOT NULL CHECK (kind IN (11, 15, 21, 23, 24)), id TEXT NOT NULL,
-  blpu INTEGER NOT NULL, street INTEGER NOT NULL, lang INTEGER NOT NULL, live INTEGER NOT NULL, born INTEGER NOT NULL,
-  gone INTEGER NOT NULL, body TEXT NOT NULL, PRIMARY KEY (cust, kind, id, born)) STRICT;
-CREATE INDEX by_blpu ON version (cust, kind, blpu, gone);
-CREATE INDEX by_street ON version (cust, kind, street, gone);
-CREATE TABLE received (cust INTEGER NOT NULL, volume INTEGER NOT NULL, bytes BLOB NOT NULL, state INTEGER NOT NULL,
-  place INTEGER NOT NULL, rule INTEGER NOT NULL, PRIMARY KEY (cust, volume)) STRICT;
-CREATE TABLE meta (id INTEGER NOT NULL PRIMARY KEY, number INTEGER NOT NULL, register TEXT NOT NULL) STRICT;
-CREATE TABLE version2 (cust INTEGER NOT NULL, kind INTEGER NOT NULL CHECK (kind IN (11, 15, 21, 23, 24, 92)), id TEXT NOT NULL,
-  blpu INTEGER NOT NULL, street INTEGER NOT NULL, lang INTEGER NOT NULL, live INTEGER NOT NULL, born INTEGER NOT NULL,
-  gone INTEGER NOT NULL, body TEXT NOT NULL, hop INTEGER NOT NULL, PRIMARY KEY (cust, kind, id, born)) STRICT;
-CREATE INDEX by_blpu2 ON version2 (cust, kind, blpu, gone);
-CREATE INDEX by_street2 ON version2 (cust, kind, street, gone);
-"""
 NEWEST = "SELECT born, gone, body FROM version2 WHERE cust = ? AND kind = ? AND id = ? ORDER BY born DESC LIMIT 1"
 NEWEST_UNTIL = "SELECT gone, body FROM version2 WHERE cust = ? AND kind = ? AND id = ? AND born <= ? ORDER BY born DESC LIMIT 1"
 APPROVED_OF = "SELECT id, body FROM version2 WHERE cust = ? AND kind = 24 AND blpu = ? AND gone = 1000000 AND live = 1"
@@ -262,7 +248,8 @@ class StoredHub(Hub):
         self.read = {}
 
     def make(self, text):
-        self.conn.executescript("BEGIN;" + TABLES)
+        with open(f"{TOP}/checks/schema2/tables.sql") as file:
+            self.conn.executescript("BEGIN;" + file.read())
         self.conn.execute("INSERT INTO meta VALUES (1, 2, ?)", (text,))
         self.conn.execute("COMMIT")
 

@@ -10,7 +10,7 @@ import time
 
 TOP = os.path.dirname(os.path.dirname(os.path.abspath(__file__)))
 sys.path.insert(0, TOP)
-from checks.stores import BLOCKS, SAMPLE, TEXT, register_of  # noqa: E402, F401
+from checks.stores import BLOCKS, SAMPLE, register_of  # noqa: E402, F401
 
 ROUNDS = int(os.environ.get("ROUNDS", "7"))  # of which a median is taken; ROUNDS=1 before a part tries it
 

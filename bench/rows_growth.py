@@ -29,7 +29,7 @@ def by_play(place, _load):
 
 
 def by_serve(place, load):
-    """The same, where the program and Python have stores in files, which took what is loaded."""
+    """The program and the two beside it, where the program and Python have stores in files, which took what is loaded."""
     store = place.loaded(load)
     return place.served(store), Talk(place.in_memory()), Opened(over_sqlite(place.fresh(store)))
 

@@ -33,7 +33,7 @@ def peak_rows(title, ratio, peaks):
 def hostile_rows(folder):
     """Files of 1 MiB that aren't good, beside a good one of 1 MiB; of each two the greater figure counts."""
     good = streams.long_file()
-    assert len(good) == streams.MIB
+    assert len(good) == MIB
     measure = reading_seconds("file", folder, good, 100)
     yield from peak_rows("a good file of 1 MiB", f"{len(good) / measure / 1e6:,.0f} MB/s", peaks_over(folder, good))
     for title, bodies in streams.hostile_files():
@@ -42,7 +42,7 @@ def hostile_rows(folder):
 
 
 def memory_rows(folder):
-    body = b"," * streams.MIB
+    body = b"," * MIB
     peaks = peaks_over(folder, body)
     yield from peak_rows("a file of one record with a million fields", f"peak memory {peaks[0] / len(body):.1f} times the file", peaks)
 

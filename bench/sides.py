@@ -73,7 +73,7 @@ class Asked:
         self.whole = b"".join(requests), b"".join(replies)
 
     def connections(self):
-        """The same over connections in turn, each of which ends behind so many."""
+        """These requests and replies over connections in turn, each of which ends behind so many."""
         for first in range(0, len(self.requests), EACH):
             requests, replies = self.requests[first : first + EACH], self.replies[first : first + EACH]
             if len(requests) == EACH:
@@ -150,7 +150,7 @@ class Served:
 
 
 class Taking(Served):
-    """The same of a hub that has nothing yet."""
+    """A program that says where it listens and has nothing yet: what is loaded it takes first."""
 
     def begin(self, load):
         self.spent(load)
@@ -226,7 +226,7 @@ def in_turn(hubs, batches):
 
 
 def behind(hubs, load, batches):
-    """The same behind what is loaded."""
+    """The median times of hubs, each of which takes what is loaded and then every batch, one hub after the other."""
     with begun(hubs, load):
         return in_turn(hubs, batches)
 

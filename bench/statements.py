@@ -25,7 +25,7 @@ CUST, FILES = 1001, 200
 
 
 def within(statements):
-    """The same in a transaction of their own."""
+    """Statements in a transaction of their own."""
     yield "BEGIN", ()
     yield from statements
     yield "COMMIT", ()
@@ -82,7 +82,7 @@ def by_library(path, groups, pages):
 
 
 def by_python(path, groups, pages):
-    """The same by Python's sqlite3."""
+    """How many rows each group found, and its nanoseconds, by Python's sqlite3 over the database in a file with so many pages at hand."""
     told = defaultdict(lambda: (0, 0))
     with closing(sqlite3.connect(path, isolation_level=None)) as conn:
         for pragma in ("journal_mode = WAL", "synchronous = FULL", f"cache_size = {pages}"):

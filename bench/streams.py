@@ -1,16 +1,14 @@
 """Change files and requests that are measured."""
+from measure import MIB  # (finds checks)
+
+from checks import stores
+from checks.stores import get
 
 STREET = b"10,1,1001,1,2024-01-02\n11,I,1,101,1,2001-04-01,\n99,1\n"
-MIB = 1_048_576
 
 
 def post(pair, body):
-    head = f"POST /custodians/{pair[0]}/volumes/{pair[1]} HTTP/1.1\r\nHost: hub\r\nContent-Length: {len(body)}\r\n\r\n"
-    return head.encode() + body
-
-
-def get(target):
-    return f"GET {target} HTTP/1.1\r\nHost: hub\r\n\r\n".encode()
+    return stores.post(*pair, body)
 
 
 def file_with(code, volume, rows, bases=(), profile=1):

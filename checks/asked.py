@@ -59,7 +59,7 @@ WELSH = "24,L5,12,CYM,1,101,,,,,,4,,,,,2001-04-01,"
 
 
 def changes(action: str, items: tuple[str, ...]) -> list[str]:
-    """The same change of each of these items."""
+    """One change of each of these items, all by one action."""
     parted = [it.partition(",") for it in items]
     return [f"{kind},{action},{order},{row}" for order, (kind, _, row) in enumerate(parted, 1)]
 

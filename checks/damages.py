@@ -166,7 +166,7 @@ def of_rows(store: Path) -> Iterator[Damage]:
 
 
 def of_pages(store: Path, small: Path) -> Iterator[Damage]:
-    """Each page of the store, and of the same with small pages."""
+    """Each page of the store, and of that with small pages."""
     for name, ready in (("page", store), ("small page", small)):
         for number in range(ready.stat().st_size // page_size(ready)):
             for how in WRITTEN:

@@ -197,7 +197,7 @@ def answers_copy(on: Ground, schema: list[str], rows: Rows) -> str | None:
 
 
 def answers_empty(on: Ground, schema: list[str]) -> str | None:
-    """The same of one with no row but that of `meta`, in which all is received."""
+    """What is wrong with a store that Python wrote from a schema alone, with no row but that of `meta`, in which all is received."""
     store = on.place()
     write_store(store, schema, {"meta": [(1, 2, TEXT)]})
     return fault_in(on.hubs.over(store, HISTORY + QUESTIONS), on.hubs.without_store(HISTORY + QUESTIONS).replies)

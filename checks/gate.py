@@ -265,7 +265,7 @@ def prove_one(crate, account: Account) -> None:
 
 
 def some(root: Path, names: list[str], edits_alone: bool) -> int:
-    """The same for some crates, over what their out/ keeps."""
+    """The gate for some crates, or for their edits alone, over what their out/ keeps."""
     clock, account = measure.Clock(), Account()
     crates = chosen(root, names)
     if not edits_alone:

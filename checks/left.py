@@ -44,7 +44,7 @@ class Leaving:
     outcomes: tuple[bytes, ...]
 
     def streams(self) -> tuple[bytes, bytes]:
-        """The requests, and the same with files in which nobody comes or leaves."""
+        """The requests, and those with files in which nobody comes or leaves in place of these."""
         return self._stream(self.files), self._stream(((),) * len(self.files))
 
     def _stream(self, files: tuple[tuple[str, ...], ...]) -> bytes:

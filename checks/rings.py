@@ -69,7 +69,7 @@ class Ring:
         return conversation(f"a ring of {self.size} custodians stays held", turns + self.outsiders() + ending)
 
     def asked(self) -> tuple[bytes, bytes]:
-        """Many questions while the ring waits, and the same where none of it came."""
+        """Many questions while the ring waits, and these questions where none of it came."""
         firsts = b"".join(self.first(code).request for code in self.codes())
         ring = b"".join(self.held(code).request for code in self.codes())
         questions = b"".join(get(f"/custodians/{1 + k % self.size}") for k in range(QUESTIONS))
@@ -83,7 +83,7 @@ def in_memory(hubs: Hubs, store: Path, ring: Ring) -> str | None:
 
 
 def in_file(hubs: Hubs, store: Path, ring: Ring) -> str | None:
-    """The same over a store in a file."""
+    """What is wrong with the answers over a store in a file."""
     one = ring.conversation()
     return fault_in(hubs.over(store, one.requests), one.replies)
 

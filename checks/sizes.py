@@ -17,7 +17,7 @@ NO_ROUTE = reply("404 Not Found", b'{"refusal":41}\n')
 
 
 def last(text: bytes) -> bytes:
-    """The same reply, where the conversation ends behind it."""
+    """A reply behind which the conversation ends."""
     return text.replace(b"\r\n\r\n", b"\r\nConnection: close\r\n\r\n", 1)
 
 

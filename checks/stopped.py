@@ -63,7 +63,7 @@ def stop(tried: Tried, number: int, blocks: Blocks | None = (0, 0)) -> Came:
 
 
 def cut(is_file: bool, tried: Tried, number: int) -> Came:
-    """The same, and the number says how many blocks of one of the two."""
+    """The machine stops, and the number says behind which call and how many blocks of one of the two are there."""
     call, at = divmod(number, len(CUTS))
     return stop(tried, call, (0, CUTS[at]) if is_file else (CUTS[at], 0))
 

@@ -12,7 +12,7 @@ def run_in_memory(hubs: Hubs, store: Path, conversation: Conversation) -> str | 
 
 
 def run_whole(hubs: Hubs, store: Path, conversation: Conversation) -> str | None:
-    """The same over a store in a file."""
+    """What is wrong with the answers to all requests as one stream, over a store in a file."""
     return fault_in(hubs.over(store, conversation.requests), conversation.replies)
 
 

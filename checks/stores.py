@@ -68,11 +68,11 @@ class Hubs:
         return _run([self.bench, "stored", store, self.register], requests)
 
     def over_each(self, store: Path, pieces: list[bytes]) -> Answered:
-        """The same, but the store is closed and opened between these pieces of the stream, within one process."""
+        """The answers to a stream over the store in a file, which is closed and opened between these pieces, within one process."""
         return _run([self.bench, "stored-each", store, self.register], framed(pieces))
 
     def at_hand(self, store: Path, requests: bytes) -> Answered:
-        """The same as `over`, but read from memory where the store can be brought to hand."""
+        """The answers to a stream over the store in a file, read from memory where the store can be brought to hand."""
         return _run([self.bench, "at-hand", store, self.register], requests)
 
     def calls(self, word: str, store: Path) -> Answered:
@@ -84,7 +84,7 @@ class Hubs:
         return _run([self.bench, "play", self.register], requests)
 
     def counted(self, requests: bytes) -> Answered:
-        """The same, and how often the keeper was asked is said."""
+        """The answers over the keeper in memory, and how often that was asked is said."""
         return _run([self.bench, "counted", self.register], requests)
 
 

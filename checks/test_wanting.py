@@ -8,7 +8,7 @@ import unittest
 from pathlib import Path
 
 from checks.preloading import library
-from checks.wanting import ASKED, REQUESTS, SOURCE, Plain, Ran, fault_of
+from checks.wanting import ASKED, NONE, REQUESTS, SOURCE, Plain, Ran, fault_of, first_fault
 
 REASONS = {200: "OK", 201: "Created", 503: "Service Unavailable"}
 LINE_51, LINE_52 = b'{"refusal":51}\n', b'{"refusal":52}\n'
@@ -91,6 +91,17 @@ class Runs(unittest.TestCase):
         self.assertIsNone(fault_of(ran([], 3, b"gazhub: Memory\n"), False))
         self.assertIn("nothing is said", fault_of(ran([], 3), False))
         self.assertIn("exit status 3", fault_of(ran(told({})[:2], 3, b"gazhub: ReadFault\n"), False))
+
+    def test_a_refused_file_shuts_a_store_in_some_runs_alone(self):
+        calm, shut = told({}), told({at: LINE_51 for at in range(3, len(REQUESTS))})
+        goes_on = told({3: LINE_51})
+
+        def fault(*refused: list[bytes]) -> str | None:
+            runs = {NONE: calm} | dict(enumerate(refused))
+            return first_fault(lambda number: Ran(0, runs[number], b"", len(refused)), 1, True)
+
+        self.assertIsNone(fault(shut, goes_on, shut))
+        self.assertIn("in no run", fault(shut, shut, told({4: LINE_51})))
 
     def test_what_is_asked_once_more_is_all_that_was_asked(self):
         self.assertEqual(REQUESTS[: len(ASKED)], REQUESTS[len(ASKED) : 2 * len(ASKED)])

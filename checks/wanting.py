@@ -123,6 +123,12 @@ def is_few(replies: list[bytes], may_shut: bool) -> bool:
     return may_shut and REQUESTS[first].startswith(b"POST ") and all(wants[first:])
 
 
+def goes_on(replies: list[bytes]) -> bool:
+    """Whether a file was told want of memory, and what follows was answered all the same."""
+    wants = [body_of(it) in WANTS for it in replies]
+    return any(it and REQUESTS[at].startswith(b"POST ") and not all(wants[at:]) for at, it in enumerate(wants))
+
+
 def fault_of(ran: Ran, may_shut: bool) -> str | None:
     """What is wrong with a run."""
     if ran.status and not ran.replies:
@@ -140,15 +146,18 @@ def fault_of(ran: Ran, may_shut: bool) -> str | None:
 
 
 def first_fault(once: Callable[[int], Ran], stride: int, may_shut: bool) -> str | None:
-    """What is wrong with the first run that goes wrong: none refused, and each by this stride."""
+    """What is wrong with the first run that goes wrong: none refused, and each by this stride. That a refused file shuts a store is so of some runs, and not of all."""
     calm = once(NONE)
     if any(body_of(it) in WANTS for it in calm.replies) or fault_of(calm, False):
         return f"no memory is refused: {fault_of(calm, False) or 'a reply tells want of memory'}"
     with ThreadPoolExecutor(len(os.sched_getaffinity(0))) as workers:
-        numbers = range(0, calm.wanted, stride)
-        ended = zip(numbers, workers.map(once, numbers))
-        found = ((number, fault_of(ran, may_shut)) for number, ran in ended)
-        return next((f"request {number} for memory refused: {fault}" for number, fault in found if fault), None)
+        numbers, went_on = range(0, calm.wanted, stride), False
+        for number, ran in zip(numbers, workers.map(once, numbers)):
+            fault = fault_of(ran, may_shut)
+            if fault:
+                return f"request {number} for memory refused: {fault}"
+            went_on = went_on or goes_on(ran.replies)
+    return None if went_on else "in no run it goes on behind a file that was told want of memory"
 
 
 def run_all(gazhub: Path, bench: Path, strides: tuple[int, int] = (1, 1)) -> Iterator[tuple[str, str | None]]:

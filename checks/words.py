@@ -40,6 +40,11 @@ def usage(words: str, begins: str) -> Told:
     return Told(words, begins, 2)
 
 
+def helps(command: str, does: str, statuses: str) -> Told:
+    """The help of a command: what it does, and the exit statuses that it names."""
+    return Told(f"help {command}", f"{does}\n\nUsage: gazhub {command} --", 0, shows=f"\nExit status: {statuses}\n")
+
+
 TOLD = (
     usage("play 1001", f"{UNEXPECTED}'1001'"),
     usage("play --store s.db", f"{UNEXPECTED}'--store'"),
@@ -65,6 +70,13 @@ TOLD = (
         0,
         shows="\nExample: gazhub submit --store hub.db --register register.toml 1001 1 streets.csv\n",
     ),
+    helps("init", "Makes a store", "0 made, 2 usage, 3 fault"),
+    helps("status", "Says how far a custodian's files are judged", "0 known, 1 refused, 2 usage, 3 fault"),
+    helps("line", "Prints the address line of a property", "0 printed, 1 none, 2 usage, 3 fault"),
+    helps("extract", "Prints a custodian's gazetteer after a volume", "0 printed, 1 none or refused, 2 usage, 3 fault"),
+    helps("extend", "Gives a store a register that grew", "0 extended, 1 refused, 2 usage, 3 fault"),
+    helps("migrate", "Brings a store of schema 1 up to date", "0 migrated or current, 2 usage, 3 fault"),
+    helps("serve", "Answers HTTP requests on 127.0.0.1, over a store", "0 all were answered, 2 usage, 3 fault"),
 )
 
 # A CODE has at most 4 digits and a VOLUME 6: as numbers these words would be a custodian and a volume that are there.

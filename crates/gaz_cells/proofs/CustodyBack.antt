@@ -1,14 +1,11 @@
 -- What became of a number goes through its cells and back.
-use Rattle.std.proofs.Common.{◌≡◌, ℕ, true, Some, refl, ◌≤◌, arith}
+use Rattle.std.proofs.Common.{◌≡◌, ℕ, true, refl, arith}
 use Rattle.std.specs.Prelude.{◌==◌}
 use Rattle.std.proofs.lemmas.Bool.{and_parts}
 use Rattle.std.proofs.lemmas.Bool.Decides.{nat_tests}
 use Rattle.gaz_ids.specs.Numbers.{in_range}
-use Rattle.gaz_records.specs.Blpus.{is_uprn}
-use Rattle.gaz_views.specs.Custody.{hop_in}
-use Rattle.gaz_views.specs.declared.custody.Custody.{Custody}
 use Rattle.gaz_views.specs.declared.custody.Custody.TheVariants.{Adopted, Released}
-use Rattle.gaz_cells.specs.Custody.{CustodyReadsBack, custody_cells, custody_in, other_in}
+use Rattle.gaz_cells.specs.Custody.{CustodyReadsBack}
 use Rattle.gaz_cells.proofs.Ids.{uprn_back}
 
 number_same : (n : ℕ) → (n == n) ≡ true

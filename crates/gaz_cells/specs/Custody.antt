@@ -1,5 +1,5 @@
 -- The columns in which tables keep what became of a number that passes between custodians.
-use Rattle.std.specs.Prelude.{◌≡◌, ℕ, ◌==◌, ◌&&◌, Bool, true, List, [], Option, Some, None}
+use Rattle.std.specs.Prelude.{◌≡◌, ℕ, ◌==◌, ◌&&◌, Bool, true, [], Option, Some, None}
 use Rattle.std.specs.Prelude.{if◌then◌else◌, length, option_map}
 use Rattle.gaz_ids.specs.Numbers.{in_range, of_id}
 use Rattle.gaz_records.specs.Blpus.{is_uprn}

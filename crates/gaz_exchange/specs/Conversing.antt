@@ -164,9 +164,9 @@ pub record Conversation (door : Door) (most : ℕ) (through : Transfer) (old new
   pub comes : Comes most read exchanges rest
   pub routes : RoutesStay exchanges
   pub runs : Runs door old new (commands_of exchanges) (responses_of exchanges)
-  -- where the keeper stood for a partial run before and nobody else wrote on it: what is received
-  -- is what was there and what came first, and each answer is read off the standing board of the
-  -- files that were received by then
+  -- where the keeper stood for a partial run before, and nobody else wrote on it nor did a failure
+  -- shut it: what is received is what was there and what came first, and each answer is read off
+  -- the standing board of the files that were received by then
   pub answers : StandsFor door old → new.unharmed →
       AllAnswered door old.content.files (commands_of exchanges) (responses_of exchanges)
       new.content.files

@@ -10,6 +10,7 @@ pub struct InMemory<'a> {
 }
 
 impl<'a> InMemory<'a> {
+    /// Over these bytes.
     pub fn new(bytes: &'a [u8]) -> Self
         ensures { result.bytes.now ≡ bytes.now }
     {

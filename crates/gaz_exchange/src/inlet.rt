@@ -36,6 +36,7 @@ fn move_to_front(bytes: &mut [u8; INLET_SIZE], start: usize, end: usize)
 }
 
 impl Inlet {
+    /// Nothing read yet.
     pub fn new() -> Self
         ensures { result ≡ [] }
     {

@@ -64,6 +64,7 @@ pub struct Intake {
 }
 
 impl Intake {
+    /// Nothing read, and no routes yet.
     pub fn new(alloc: Global) -> Self
         ensures unread { result.inlet ≡ [] }
         ensures unrouted { result.routes ≡ false }

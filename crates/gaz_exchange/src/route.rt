@@ -84,6 +84,7 @@ impl Model for Routes {
 }
 
 impl Routes {
+    /// Not found yet.
     pub fn new() -> Self
         ensures { result ≡ false }
     {

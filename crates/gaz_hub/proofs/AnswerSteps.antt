@@ -15,7 +15,6 @@ use Rattle.gaz_hub.specs.Settling.{Tells}
 use Rattle.gaz_hub.specs.Standing.{Follows, Leads, NothingReady}
 use Rattle.gaz_hub.specs.Step.{Door, HubState, NotReceived, Step, Submit, Submits, Submitted, Unsettled, WasNew, blocks, file_refusal, or_foreign, turned_away}
 use Rattle.gaz_hub.specs.Runs.{same_pair}
-use Rattle.gaz_hub.specs.Stops.{is_taken_in}
 use Rattle.gaz_hub.specs.declared.answer.Answer.{Answer}
 use Rattle.gaz_hub.specs.declared.answer.Answer.TheVariants.{New, Repeat, Taken, Refused}
 use Rattle.gaz_hub.specs.declared.outcome.Outcome.{Outcome}
@@ -168,19 +167,6 @@ taken_not d a b code volume bytes e let_in idle came =
 
 -- ---- after what was there is settled
 
--- the pair was received before
-pub again_is_settled : (answer : Answer) → IsOfBefore answer → is_taken_in (Submitted answer) ≡ false
-again_is_settled (New told) h = absurd h
-again_is_settled (Repeat told) h = refl
-again_is_settled (Taken digest) h = refl
-again_is_settled (Refused r) h = absurd h
-
-pub again_past_door : (answer : Answer) → IsOfBefore answer → IsPastDoor answer
-again_past_door (New told) h = absurd h
-again_past_door (Repeat told) h = tt
-again_past_door (Taken digest) h = tt
-again_past_door (Refused r) h = absurd h
-
 -- the same answer from the board before that was settled
 module _ (d : Door) (old mid new : HubState) (c volume : ℕ) (bytes : List ℕ) (same : mid.received ≡ old.received) (before : Follows (blocks d) old.received old.board mid.board) where
   on_from : (K : Received) → K ≡ with_file mid.received c volume bytes → map.get mid.received (c, volume) ≡ None → Follows (blocks d) K mid.board new.board → Follows (blocks d) K old.board new.board
@@ -256,7 +242,7 @@ taken_in d a b c code volume bytes answer let_in first second past =
           let mid = second.harm fine in
           second.stands (first.advances.stands stood mid) (first.right stood mid) fine;
       step = step;
-      standing = λ stood fine. reads_standing d (state_of a.content) (Submit code volume bytes) (Submitted answer) (state_of c.content) (step stood fine);
+      standing = λ stood fine. reads_standing d (state_of a.content) (Submit code volume bytes) (Submitted answer) (state_of c.content) (step stood fine) stood.1.partial;
       stays = declined_stays d code volume bytes answer let_in past;
       was_open = λ no t. first.advances.harm (second.was_open no t);
       is_open = second.is_open;
@@ -300,7 +286,7 @@ unsettled_before d a b code volume bytes fault P let_in l =
       harm = l.advances.harm;
       stands = l.advances.stands;
       step = step;
-      standing = λ stood fine. reads_standing d (state_of a.content) (Submit code volume bytes) (Submitted (Refused (refusal.NotReceived fault))) (state_of b.content) (step stood fine);
+      standing = λ stood fine. reads_standing d (state_of a.content) (Submit code volume bytes) (Submitted (Refused (refusal.NotReceived fault))) (state_of b.content) (step stood fine) stood.1.partial;
       stays = λ is hub. stays hub;
       was_open = λ no t. absurd (true≢false no);
       is_open = λ none. let no : Some (refusal.NotReceived fault) ≡ None = none in cc;
@@ -331,7 +317,7 @@ answered_before d a b code volume bytes (Repeat told) let_in l sure before =
       harm = l.advances.harm;
       stands = l.advances.stands;
       step = step;
-      standing = λ stood fine. reads_standing d (state_of a.content) (Submit code volume bytes) (Submitted (Repeat told)) (state_of b.content) (step stood fine);
+      standing = λ stood fine. reads_standing d (state_of a.content) (Submit code volume bytes) (Submitted (Repeat told)) (state_of b.content) (step stood fine) stood.1.partial;
       stays = λ is hub. absurd (true≢false (sym is));
       was_open = λ no t. l.advances.harm (sure t);
       is_open = λ none. sure;
@@ -359,7 +345,7 @@ answered_before d a b code volume bytes (Taken digest) let_in l sure before =
       harm = l.advances.harm;
       stands = l.advances.stands;
       step = step;
-      standing = λ stood fine. reads_standing d (state_of a.content) (Submit code volume bytes) (Submitted (Taken digest)) (state_of b.content) (step stood fine);
+      standing = λ stood fine. reads_standing d (state_of a.content) (Submit code volume bytes) (Submitted (Taken digest)) (state_of b.content) (step stood fine) stood.1.partial;
       stays = λ is hub. absurd (true≢false (sym is));
       was_open = λ no t. l.advances.harm (sure t);
       is_open = λ none. sure;

@@ -327,19 +327,3 @@ module _ (register : RegisterValue) (old new : Option Remembered) (a b : Seen) (
         committed = λ sound free. l.committed (λ fine. (sound fine).0) free;
         whole = λ sound free. l.whole (λ fine. (sound fine).0) free;
       }
-
-  pub enters_failed : {T : Type 0} (e : ShelfFault) → new ≡ None → Enters {T = T} a b (Err e) (IsNew a.content c volume) (with_received a.content c volume bytes)
-      → Enters {T = T} (remembering register old a) (remembering register new b) (Err e) (IsNew a.content c volume) (with_received a.content c volume bytes)
-  enters_failed e lost l =
-      record {
-        harm = l.harm;
-        stands = λ stood free fine. (l.stands stood.0 free fine, forgotten register new b.content lost);
-        done = λ stood free fine. tt;
-        undone = λ stood free fine. l.undone stood.0 free fine;
-        progress = l.progress;
-        cleared = l.cleared;
-        counts = record { kept = l.counts.kept; store = l.counts.store; trust = l.counts.trust };
-        leaves = λ sound free. l.leaves (λ fine. (sound fine).0) free;
-        committed = λ sound free. tt;
-        whole = λ sound free. l.whole (λ fine. (sound fine).0) free;
-      }

@@ -11,12 +11,13 @@ use Rattle.std.specs.List.{list_any}
 use Rattle.std.specs.Ordering.{nat_cmp, eq_by_cmp}
 use Rattle.std.specs.Cmp.{Equal-is}
 use Rattle.std.specs.FinMap as map
+use Rattle.gaz_chains.specs.Chains.{IsPrefixOf}
 use Rattle.gaz_views.specs.View.{empty_view}
 use Rattle.gaz_changefile.specs.Reading.{Reading, reading}
 use Rattle.gaz_rules.specs.Judging.{bases_of, judge}
 use Rattle.gaz_keeper.specs.Board.{Judgement, Board, empty_board, reached, view_after}
 use Rattle.gaz_keeper.specs.Received.{Received, pair_cmp}
-use Rattle.gaz_hub.specs.Standing.{HasAllOf, Register, ready, with_next, judge_one, round, rounds, standing, Leads, NothingReady, IsPrefixOf, AnyOrder, MoreFiles}
+use Rattle.gaz_hub.specs.Standing.{HasAllOf, Register, ready, with_next, judge_one, round, rounds, standing, Leads, NothingReady, AnyOrder, MoreFiles}
 use Rattle.gaz_rules.specs.Bases.{basis_views, are_reached}
 use Rattle.gaz_changefile.specs.declared.change.Basis.{Basis}
 use Rattle.gaz_hub.proofs.Prefixes.{prefix_length, prefix_same, prefix_push, get_front, get_front_plain, get_pushed, both_parts, joined, gives_some, at_some, count, count_all, one_more_counted, any_of_found, some_of_any}

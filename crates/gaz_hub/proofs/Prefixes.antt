@@ -6,7 +6,7 @@ use Rattle.std.specs.List.{list_any}
 use Rattle.std.specs.declared.cmp.Ordering.{Ordering}
 use Rattle.std.specs.Ordering.{eq_by_cmp}
 use Rattle.std.specs.FinMap.{find}
-use Rattle.gaz_hub.specs.Standing.{IsPrefixOf}
+use Rattle.gaz_chains.specs.Chains.{IsPrefixOf}
 
 pub prefix_refl : {X : Type 0} (xs : List X) → IsPrefixOf xs xs
 prefix_refl xs = ([], append-nil xs)

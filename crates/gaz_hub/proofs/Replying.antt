@@ -46,7 +46,7 @@ module _ {T : Type 0} (d : Door) (q : Question) (say : T → Told q) (reply : Re
         harm = l.advances.harm;
         stands = l.advances.stands;
         step = step;
-        standing = λ stood fine. reads_standing d (state_of a.content) (Pose q) (Replied q (Ok (say x))) (state_of c.content) (step stood fine);
+        standing = λ stood fine. reads_standing d (state_of a.content) (Pose q) (Replied q (Ok (say x))) (state_of c.content) (step stood fine) stood.1.partial;
         stays = λ is hub. absurd (true≢false (sym is));
         was_open = λ no t. l.advances.harm (sure t);
         is_open = λ none. sure;
@@ -65,7 +65,7 @@ module _ {T : Type 0} (d : Door) (q : Question) (say : T → Told q) (reply : Re
         harm = l.advances.harm;
         stands = l.advances.stands;
         step = step;
-        standing = λ stood fine. reads_standing d (state_of a.content) (Pose q) (Replied q (Err (refusal.NotReceived fault))) (state_of c.content) (step stood fine);
+        standing = λ stood fine. reads_standing d (state_of a.content) (Pose q) (Replied q (Err (refusal.NotReceived fault))) (state_of c.content) (step stood fine) stood.1.partial;
         stays = λ is hub. stays hub;
         was_open = λ no t. absurd (true≢false no);
         is_open = λ none. let no : Some (refusal.NotReceived fault) ≡ None = none in cc;

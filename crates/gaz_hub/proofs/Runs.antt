@@ -3,9 +3,10 @@ use Rattle.std.proofs.Common.{◌≡◌, ℕ, true, List, [], ◌∷◌, ◌++�
 use Rattle.std.specs.Prelude.{Option, Some, None}
 use Rattle.std.specs.Option.{option_or}
 use Rattle.std.specs.FinMap as map
+use Rattle.gaz_chains.specs.Chains.{IsPrefixOf}
 use Rattle.gaz_keeper.specs.Board.{Board, empty_board}
 use Rattle.gaz_keeper.specs.Received.{Received, pair_cmp}
-use Rattle.gaz_hub.specs.Standing.{Follows, IsPartial, NothingReady, standing, Leads, IsPrefixOf, judge_one, Register}
+use Rattle.gaz_hub.specs.Standing.{Follows, IsPartial, NothingReady, standing, Leads, judge_one, Register}
 use Rattle.gaz_hub.specs.Outcomes.{outcome}
 use Rattle.gaz_hub.specs.Step.{Command, Door, HubState, Response, Step, blocks, new_hub}
 use Rattle.gaz_hub.specs.Runs.{Run, is_settled, first_received, Abides, AbidesFrom, EveryRun, EveryRunFrom, EverySettledRun, EverySettledRunFrom, EveryRepeat, JudgementsStay, EqualReceived}

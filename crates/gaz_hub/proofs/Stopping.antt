@@ -65,33 +65,11 @@ pub later_left : (d : Door) (hub : HubState) (command : Command) (k : Content) �
 later_left d hub (Submit c volume bytes) k l = inl l
 later_left d hub (Pose q) k l = l
 
-pub with_left : (d : Door) (hub : HubState) (command : Command) (k : Content) → IsLeftWith d command hub k → IsLeftBy d command hub k
-with_left d hub (Submit c volume bytes) k l = inr l
-with_left d hub (Pose q) k l = absurd l
-
 -- ---- one call after another
 
 -- no call
 pub stops_still : (a : Seen) (hub : HubState) (P : HubState → Content → Type 0) → Stops a a hub hub P
 stops_still a hub P = record { ever = λ k l. inl l; now = λ fine k l. inl (l, refl); whole = λ all. all }
-
--- a call that was told of a keeper seen otherwise
-pub stops_as : (a b c e : Seen) (before after : HubState) (P Q : HubState → Content → Type 0)
-    → ((k : Content) → e.leaves k → b.leaves k) → ((k : Content) → a.leaves k → c.leaves k) → (a.unharmed → c.unharmed) → (e.unharmed → b.unharmed) → (c.whole → a.whole) → (b.whole → e.whole)
-    → ((hub : HubState) (k : Content) → P hub k → Q hub k)
-    → Stops a b before after P → Stops c e before after Q
-stops_as a b c e before after P Q down up fine_up fine_down whole_down whole_up goes s =
-    record {
-      ever = λ k l. elim (s.ever k (down k l)) [
-        | inl was ↦ inl (up k was)
-        | inr made ↦ inr (fine_up made.0, goes before k made.1)
-      ];
-      now = λ fine k l. elim (s.now (fine_down fine) k (down k l)) [
-        | inl was ↦ inl (up k was.0, was.1)
-        | inr made ↦ inr (goes after k made)
-      ];
-      whole = λ all. whole_up (s.whole (whole_down all));
-    }
 
 -- two calls
 pub stops_then : (a b c : Seen) (one two three : HubState) (P Q : HubState → Content → Type 0) → (b.unharmed → a.unharmed) → (c.unharmed → b.unharmed)

@@ -86,7 +86,7 @@ pub record IsFound (door : Door) (old new : Seen) (commands : List Command)
   -- and with each that was answered New, Repeat, Taken or 52, as long as the answers are steps
   pub told : HasAllTold door (state_of old.content) commands responses k.files
   -- and of all that are received, and at most one more that was answered 51 and since which nothing
-  -- has changed, where nobody else wrote on what it keeps
+  -- has changed, where nobody else wrote on what it keeps and no failure shut it
   pub now : new.unharmed
       → HasFilesOf door (state_of old.content) (state_of new.content) commands responses k.files
 

@@ -4,6 +4,7 @@ use Rattle.std.specs.Prelude.{IsSome, List, [], ◌∷◌}
 use Rattle.std.specs.Prelude.{Option, Some, None, Result, Ok, Err}
 use Rattle.std.specs.Global.{Vec}
 use Rattle.std.specs.Option.{option_and_then, option_map, option_map_or}
+use Rattle.std.specs.Result.{result_err}
 use Rattle.std.specs.FinMap as map
 use Rattle.gaz_changefile.specs.Profile.{profile_of}
 use Rattle.gaz_register.specs.Registers.{RegisterValue, knows}
@@ -55,7 +56,7 @@ pub record MayHave (door : Door) (k : Content) : Type 0 where
 abbrev pub StandsFor : Door → Seen → Type 0
 StandsFor door s = s.stands × MayHave door s.content
 
--- it does unless somebody else wrote on what it keeps
+-- it does unless somebody else wrote on what it keeps or a failure shut it
 abbrev pub IsSoundFor : Door → Seen → Type 0
 IsSoundFor door s = s.unharmed → StandsFor door s
 
@@ -74,13 +75,9 @@ refusal_in_answer (Taken digest) = None
 refusal_in_answer (Refused r) = Some r
 
 -- what is told in place of what was asked
-abbrev pub refusal_in : {T : Type 0} → Result T Refusal → Option Refusal
-refusal_in (Ok told) = None
-refusal_in (Err r) = Some r
-
 abbrev pub refusal_of : Response → Option Refusal
 refusal_of (Submitted answer) = refusal_in_answer answer
-refusal_of (Replied q reply) = refusal_in reply
+refusal_of (Replied q reply) = result_err reply
 
 -- by the door, or by 51: nothing was received, and nothing is answered
 abbrev pub is_declined_by : Option Refusal → Bool
@@ -148,9 +145,8 @@ pub record Steps (door : Door) (old new : Seen) (command : Command)
   pub stands : StandsFor door old → new.unharmed → StandsFor door new
   pub step : StandsFor door old → new.unharmed
       → Step door (state_of old.content) command response (state_of new.content)
-  -- where the board was partial before: what is told is read off the standing board
+  -- what is told is read off the standing board
   pub standing : StandsFor door old → new.unharmed
-      → IsPartial (blocks door) old.content.files old.content.board
       → ReadsStanding door (state_of old.content) command response (state_of new.content)
   -- what is declined is a step of any hub to itself
   pub stays : is_declined response ≡ true → (hub : HubState) → Step door hub command response hub

@@ -60,7 +60,7 @@ pub record StandsFrom (door : Door) (old : Seen) (commands : List Command)
   pub stands : StandsFor door new
   pub abides : AbidesFrom door (state_of old.content) commands responses (state_of new.content)
 
--- whatever commands come, where nobody else wrote on what the keeper keeps
+-- whatever commands come, where nobody else wrote on what the keeper keeps and no failure shut it
 abbrev pub EveryRunFromOver : {K : Type 0} → (K → Seen) → Type 0
 EveryRunFromOver {K} seen =
     (door : Door) (old new : K) (commands : List Command) (responses : List Response)
@@ -94,7 +94,7 @@ pub record StandsAfter (door : Door) (commands : List Command) (responses : List
   pub stands : new.stands
   pub abides : Abides door commands responses (state_of new.content)
 
--- whatever commands come, where nobody else wrote on what the keeper keeps
+-- whatever commands come, where nobody else wrote on what the keeper keeps and no failure shut it
 abbrev pub EveryRunOver : {K : Type 0} → (K → Seen) → Type 0
 EveryRunOver {K} seen =
     (door : Door) (old new : K) (commands : List Command) (responses : List Response)

@@ -43,6 +43,8 @@ told_by_holder board register uprn =
     (option_and_then (said_by_known board register uprn) (holder_from board uprn owner)))
     (owner_of_uprn register uprn)
 
+-- on a partial board only the holder of a number's chain can have its property, and what it says is
+-- what a look-up finds
 pub record OwnersAlone : Type 0 where
   -- on a partial board only who can have a property has it
   pub have : (register : RegisterValue) (files : Received) (board : Board) (c uprn : ℕ)

@@ -4,8 +4,9 @@ use Rattle.std.specs.Prelude.{◌++◌, is_none, is_ok, Option, Some, None}
 use Rattle.std.specs.Option.{option_or}
 use Rattle.std.specs.Ordering.{eq_by_cmp}
 use Rattle.std.specs.FinMap as map
+use Rattle.gaz_chains.specs.Chains.{IsPrefixOf}
 use Rattle.gaz_keeper.specs.Received.{pair_cmp}
-use Rattle.gaz_hub.specs.Standing.{IsPartial, IsPrefixOf, NothingReady, standing}
+use Rattle.gaz_hub.specs.Standing.{IsPartial, NothingReady, standing}
 use Rattle.gaz_hub.specs.Outcomes.{outcome}
 use Rattle.gaz_hub.specs.Step.{Command, Door, HubState, Replied, Response, Step, Submit, Submitted}
 use Rattle.gaz_hub.specs.Step.{blocks, file_refusal, new_hub}

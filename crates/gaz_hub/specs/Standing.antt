@@ -6,6 +6,7 @@ use Rattle.std.specs.Prelude.{if◌then◌else◌, IsTrue, List, [], ◌∷◌, 
 use Rattle.std.specs.Option.{option_map, option_map_or}
 use Rattle.std.specs.FinMap as map
 use Rattle.gaz_ids.specs.Limits.{last_volume}
+use Rattle.gaz_chains.specs.Chains.{IsPrefixOf}
 use Rattle.gaz_changefile.specs.Reading.{Reading, reading}
 use Rattle.gaz_keeper.specs.Board.{Judgement, Board, empty_board, reached}
 use Rattle.gaz_register.specs.Registers.{Blocks}
@@ -64,6 +65,7 @@ Leads register files board [] later = later ≡ board
 Leads register files board (c ∷ cs) later =
     IsTrue (ready files board c) × Leads register files (judge_one register files board c) cs later
 
+-- judging ready files, one at a time in some order, leads from a board to a later one
 pub record Follows (register : Register) (files : Received) (board later : Board) : Type 0 where
   pub order : List ℕ
   pub leads : Leads register files board order later
@@ -72,6 +74,7 @@ pub record Follows (register : Register) (files : Received) (board later : Board
 abbrev pub IsPartial : Register → Received → Board → Type 0
 IsPartial register files board = Follows register files empty_board board
 
+-- no custodian's next file is ready
 abbrev pub NothingReady : Received → Board → Type 0
 NothingReady files board = (c : ℕ) → ready files board c ≡ false
 
@@ -81,10 +84,6 @@ NothingReady files board = (c : ℕ) → ready files board c ≡ false
 abbrev pub HasAllOf : Received → Received → Type 0
 HasAllOf bigger smaller =
     (p : ℕ × ℕ) (bytes : List ℕ) → map.get smaller p ≡ Some bytes → map.get bigger p ≡ Some bytes
-
--- one list begins another
-abbrev pub IsPrefixOf : {X : Type 0} → List X → List X → Type 0
-IsPrefixOf {X} xs ys = (rest : List X) × (xs ++ rest ≡ ys)
 
 -- every partial board with nothing ready is the standing one
 abbrev pub AnyOrder : Type 0

@@ -47,8 +47,8 @@ pub record Stops (old new : Seen) (before after : HubState)
     (IsLeft : HubState → Content → Type 0) : Type 0 where
   -- nothing that it couldn't leave before, but for what the call makes of the hub before it
   pub ever : (k : Content) → new.leaves k → old.leaves k ⊎ (old.unharmed × IsLeft before k)
-  -- and while nobody else writes: what the call makes of the hub after it, or what could be left
-  -- before, where nothing has changed
+  -- and while nobody else writes and no failure shuts it: what the call makes of the hub after it,
+  -- or what could be left before, where nothing has changed
   pub now : new.unharmed → (k : Content) → new.leaves k
       → (old.leaves k × (after ≡ before)) ⊎ IsLeft after k
   -- whatever is left stands for that again, where that was so before

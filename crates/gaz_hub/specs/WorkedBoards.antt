@@ -2,6 +2,7 @@
 use Rattle.std.specs.Prelude.{◌≡◌, ℕ, true, false, [], ◌∷◌, Some, None}
 use Rattle.std.specs.declared.cmp.Ordering.TheVariants.{Less, Equal, Greater}
 use Rattle.std.specs.FinMap as map
+use Rattle.gaz_chains.specs.Chains.{IsPrefixOf}
 use Rattle.gaz_changefile.specs.declared.change.Basis.{Basis}
 use Rattle.gaz_changefile.specs.Reading.{Bad}
 use Rattle.gaz_keeper.specs.Board.{Board, empty_board, reached}
@@ -10,7 +11,7 @@ use Rattle.gaz_keeper.specs.Examples.{two_judged}
 use Rattle.gaz_views.specs.View.{empty_view}
 use Rattle.gaz_views.specs.declared.verdict.Verdict.TheVariants.{Applied, Rejected}
 use Rattle.gaz_rules.specs.Examples.{file_of, insertion}
-use Rattle.gaz_hub.specs.Standing.{HasAllOf, Follows, IsPartial, IsPrefixOf, Leads, NothingReady}
+use Rattle.gaz_hub.specs.Standing.{HasAllOf, Follows, IsPartial, Leads, NothingReady}
 use Rattle.gaz_hub.specs.Standing.{StandsSettled, judge_one, next_reading, ready}
 use Rattle.gaz_hub.specs.Standing.{round, rounds, standing, with_next}
 use Rattle.gaz_keeper.specs.Received.{pair_cmp, with_file}

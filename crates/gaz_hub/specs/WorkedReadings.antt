@@ -10,16 +10,13 @@ use Rattle.gaz_hub.specs.Hubs.{cause_of, told, told_all, or_not_received}
 use Rattle.gaz_hub.specs.Posing.{telling}
 use Rattle.gaz_hub.specs.Runs.{is_settled}
 use Rattle.gaz_hub.specs.Sample.{sample_door}
-use Rattle.gaz_hub.specs.Step.{Command, HubState, Pose, Replied, Response, Step, early_refusal}
+use Rattle.gaz_hub.specs.Step.{Pose, Replied, early_refusal}
+use Rattle.gaz_hub.specs.WorkedSteps.{Goes}
 use Rattle.gaz_hub.specs.declared.question.Question.TheVariants.{Extract, ListClosed, LookUp}
 use Rattle.gaz_hub.specs.declared.question.Question.TheVariants.{Settle}
 use Rattle.gaz_hub.specs.declared.question.Told.TheVariants as says
 use Rattle.gaz_hub.specs.declared.refusal.DoorRefusal.TheVariants as at_door
 use Rattle.gaz_hub.specs.declared.refusal.Refusal.TheVariants as refusal
-
--- from one state of a hub over the sample register to another
-abbrev pub Reads : HubState → Command → Response → HubState → Type 0
-Reads old command response new = Step sample_door old command response new
 
 -- the extract of custodian 1003 after volume 1, on which nothing stands: header and trailer alone
 abbrev pub of_nothing : List ℕ
@@ -27,36 +24,36 @@ of_nothing = lines_of (header 1003 1 ∷ trailer 0 ∷ [])
 
 -- volume 1 of custodian 1003 was rejected, and volume 2 is missing: nobody has a property
 pub record WorkedReadings : Type 0 where
-  pub not_found : Reads gap_hub (Pose (LookUp 42)) (Replied (LookUp 42) (Ok None)) gap_hub
+  pub not_found : Goes gap_hub (Pose (LookUp 42)) (Replied (LookUp 42) (Ok None)) gap_hub
   pub never_found : (found : Found)
-      → Reads gap_hub (Pose (LookUp 42)) (Replied (LookUp 42) (Ok (Some found))) gap_hub → ⊥
-  pub look_up_faults : Reads late_hub (Pose (LookUp 42))
+      → Goes gap_hub (Pose (LookUp 42)) (Replied (LookUp 42) (Ok (Some found))) gap_hub → ⊥
+  pub look_up_faults : Goes late_hub (Pose (LookUp 42))
       (Replied (LookUp 42) (Err (refusal.NotReceived fault.Memory))) late_hub
-  pub never_refused_at_the_door : Reads gap_hub (Pose (LookUp 42))
+  pub never_refused_at_the_door : Goes gap_hub (Pose (LookUp 42))
       (Replied (LookUp 42) (Err (refusal.Door at_door.UnknownCustodian))) gap_hub → ⊥
-  pub extracted : Reads gap_hub (Pose (Extract 1003 1))
+  pub extracted : Goes gap_hub (Pose (Extract 1003 1))
       (Replied (Extract 1003 1) (Ok (Some of_nothing))) gap_hub
-  pub settled_first : Reads late_hub (Pose (Extract 1003 1))
+  pub settled_first : Goes late_hub (Pose (Extract 1003 1))
       (Replied (Extract 1003 1) (Ok (Some of_nothing))) gap_hub
-  pub never_from_before : Reads late_hub (Pose (Extract 1003 1))
+  pub never_from_before : Goes late_hub (Pose (Extract 1003 1))
       (Replied (Extract 1003 1) (Ok None)) gap_hub → ⊥
-  pub never_unsettled : Reads late_hub (Pose (Extract 1003 1))
+  pub never_unsettled : Goes late_hub (Pose (Extract 1003 1))
       (Replied (Extract 1003 1) (Ok None)) late_hub → ⊥
-  pub not_reached : Reads gap_hub (Pose (Extract 1003 2))
+  pub not_reached : Goes gap_hub (Pose (Extract 1003 2))
       (Replied (Extract 1003 2) (Ok None)) gap_hub
   pub never_the_last_view : (text : List ℕ)
-      → Reads gap_hub (Pose (Extract 1003 2)) (Replied (Extract 1003 2) (Ok (Some text))) gap_hub
+      → Goes gap_hub (Pose (Extract 1003 2)) (Replied (Extract 1003 2) (Ok (Some text))) gap_hub
       → ⊥
-  pub unknown_first : Reads gap_hub (Pose (Extract 9998 0))
+  pub unknown_first : Goes gap_hub (Pose (Extract 9998 0))
       (Replied (Extract 9998 0) (Err (refusal.Door at_door.UnknownCustodian))) gap_hub
-  pub no_volume : Reads gap_hub (Pose (Extract 1003 0))
+  pub no_volume : Goes gap_hub (Pose (Extract 1003 0))
       (Replied (Extract 1003 0) (Err (refusal.Door at_door.BadVolume))) gap_hub
-  pub never_received : Reads gap_hub (Pose (Extract 1003 1))
+  pub never_received : Goes gap_hub (Pose (Extract 1003 1))
       (Replied (Extract 1003 1) (Err (refusal.ReceivedUnsettled fault.Memory))) gap_hub → ⊥
-  pub listed : Reads gap_hub (Pose ListClosed) (Replied ListClosed (Ok [])) gap_hub
+  pub listed : Goes gap_hub (Pose ListClosed) (Replied ListClosed (Ok [])) gap_hub
   pub never_listed : (closed : Closed)
-      → Reads gap_hub (Pose ListClosed) (Replied ListClosed (Ok (closed ∷ []))) gap_hub → ⊥
-  pub never_answered_otherwise : Reads gap_hub (Pose ListClosed)
+      → Goes gap_hub (Pose ListClosed) (Replied ListClosed (Ok (closed ∷ []))) gap_hub → ⊥
+  pub never_answered_otherwise : Goes gap_hub (Pose ListClosed)
       (Replied (LookUp 42) (Ok None)) gap_hub → ⊥
   pub looking_let_in : early_refusal sample_door (Pose (LookUp 0)) ≡ None
   pub listing_let_in : early_refusal sample_door (Pose ListClosed) ≡ None

@@ -15,7 +15,7 @@ use gaz_extract::{Found, lookup_with};
 use gaz_ids::{Code, Uprn};
 use gaz_keeper::{Shelf, ShelfFault};
 use gaz_register::Register;
-use gaz_views::Custody;
+use gaz_views::{Custody, hop_of};
 use std::alloc::Global;
 
 /// A turn for the first custodian and for each hop.
@@ -27,17 +27,6 @@ pub enum Asked {
     Here,
     Nobody,
     Next(Code),
-}
-
-// How often a number had passed on of which this became last.
-fn hop_of(custody: &Option<Custody>) -> u64
-    ensures { result ≡ hop_of custody.now }
-{
-    match custody {
-        None => 0,
-        Some(Custody::Released { hop, .. }) => hop.number(),
-        Some(Custody::Adopted { hop, .. }) => hop.number(),
-    }
 }
 
 // What last became of a number, in a custodian's last view.

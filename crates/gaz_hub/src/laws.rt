@@ -215,7 +215,7 @@ pub fn every_answer_over<K: Inbox + Drop>()
 /// What a stop leaves after whatever commands, of any keeper of which it left just a partial run
 /// before: a partial run again, which the next hub can begin with. Its files are those that were
 /// received, and one more at most, of a submission that was answered 51 and since which nothing has
-/// changed.
+/// changed, as long as nobody else wrote on what it keeps and no failure shut it.
 pub fn every_stop_over<K: Inbox + Drop>()
     ensures keeper { EveryStopOver K.seen }
     ensures hub { EveryStopOver (hub_seen K.seen) }

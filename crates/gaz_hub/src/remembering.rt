@@ -158,7 +158,8 @@ pub fn settled_knowing<
     }
 }
 
-/// The same as the reply to a question: a fault is `NotReceived` (51).
+/// The reply to a question whose reading is given what a custodian is known to wait for, once all
+/// is settled: a fault is `NotReceived` (51).
 pub fn answered_knowing<
     K: Inbox,
     T: Drop,

@@ -2,13 +2,12 @@
 use Rattle.std.specs.Prelude.{◌≡◌, ◌≤◌, ⊤, ℕ, Bool, List, Option, None, Some, Result, option_map}
 use Rattle.std.specs.FinMap as map
 use Rattle.std.specs.Global.{Vec}
-use Rattle.std.specs.Option.{option_map_or}
 use Rattle.gaz_ids.specs.declared.lang.Lang.{Lang}
 use Rattle.gaz_records.specs.declared.item.Item.{Item}
 use Rattle.gaz_records.specs.declared.item.Kind.{Kind}
 use Rattle.gaz_records.specs.declared.key.Key.{Key}
-use Rattle.gaz_views.specs.Numbered.{as_blpu}
-use Rattle.gaz_views.specs.View.{custody_at, was_used, with_adoption, with_item, with_release}
+use Rattle.gaz_views.specs.Numbered.{with_adopted}
+use Rattle.gaz_views.specs.View.{custody_at, was_used, with_item, with_release}
 use Rattle.gaz_views.specs.View.{without_key}
 use Rattle.gaz_views.specs.Words.{approved_of, approved_on, has_children, page, property_of, tied}
 use Rattle.gaz_views.specs.declared.custody.Custody.{Custody}
@@ -149,8 +148,7 @@ abbrev pub Adopts : {K T : Type 0} → (K → Seen) → K → K → Result T She
     → (from hop : ℕ) → Type 0
 Adopts seen old new result i from hop =
     Sets (seen old) (seen new) result
-    (option_map_or (λ b. with_adoption (seen old).content.working b from hop) (as_blpu i)
-    (seen old).content.working)
+    (with_adopted (seen old).content.working i from hop)
 
 abbrev pub Applies : {K T : Type 0} → (K → Seen) → K → K → Result T ShelfFault → Type 0
 Applies seen old new result =

@@ -1,5 +1,5 @@
 -- What the definitions come to on worked examples.
-use Rattle.std.proofs.Common.{◌≡◌, ◌∙◌, ◌≤◌, ◌<◌, ◌+◌, ◌⊎◌, ◌||◌, ℕ, suc, pos, Bool, true, false, List, [], ◌∷◌, inl, inr, refl, sym, ap, subst, arith, slice_get}
+use Rattle.std.proofs.Common.{◌≡◌, ◌∙◌, ◌≤◌, ◌<◌, ◌+◌, ◌⊎◌, ◌||◌, ◌==◌, ℕ, suc, pos, Bool, true, false, cond, true≢false, List, [], ◌∷◌, inl, inr, refl, sym, ap, subst, arith, slice_get}
 use Rattle.std.specs.Prelude.{IsSomeAnd, Some, None, Ok, length, map, slice_index_or, unwrap_or}
 use Rattle.std.specs.Cmp.{IsTotalOrder, nat_cmp_total}
 use Rattle.std.specs.FinMap as finite
@@ -31,7 +31,9 @@ use Rattle.gaz_cells.specs.Columns.{cells_of}
 use Rattle.gaz_cells.specs.Reading.{read_cells}
 use Rattle.gaz_overlay.proofs.StandingRows.{item_after, stands, used_after, uses}
 use Rattle.gaz_overlay.specs.Passages.{has_passed, passed_keys}
-use Rattle.gaz_overlay.specs.Rows.{HistoryRow, view_after}
+use Rattle.gaz_overlay.specs.Changes.{was_there}
+use Rattle.gaz_overlay.specs.Rows.{HistoryRow, never, view_after}
+use Rattle.gaz_overlay.specs.declared.touch.Stood.TheVariants.{NoRow, Past, Since}
 use Rattle.gaz_tables.specs.Receiveds.{judged}
 use Rattle.gaz_kept.specs.Examples.{WorkedBoard, WorkedExamples, WorkedFiles, WorkedNewest, WorkedTables, WorkedViews, changed, changed_101_life, inserted_101, changed_101, four_rows, handed_on, held_6, memory_of_102, of_1002, overlapping, rejected_3, row_101, six_files, with_a_gap, worked_board}
 use Rattle.gaz_keeper.specs.Board.{verdict_on}
@@ -40,7 +42,7 @@ use Rattle.gaz_keeper.specs.Received.{pair_cmp}
 use Rattle.gaz_keeper.proofs.Pairs.{pairs_total}
 use Rattle.gaz_kept.specs.Files.{file_in, files_in, judged_in, judged_volumes, verdicts_in}
 use Rattle.gaz_kept.specs.Kept.{AreInTurn, AreFirst, IsFile, IsVersion}
-use Rattle.gaz_kept.specs.Newest.{IsNewest, IsNewestUntil}
+use Rattle.gaz_kept.specs.Newest.{IsNewest, IsNewestUntil, stood_of}
 use Rattle.gaz_kept.specs.Versions.{histories_in, history_in, item_in, living, passages_in, values_of, view_in}
 use Rattle.gaz_kept.proofs.CustodyFollows.{no_passage}
 use Rattle.gaz_kept.proofs.PassageRows.{never_passed}
@@ -365,6 +367,14 @@ not_103 n other e = other (ap usrn_of e)
 none_of_103 : IsNewest three (key.Street 103) None
 none_of_103 = λ r there same any. all_has (λ (s : HistoryRow). s.key ≡ key.Street 103 → ⊥) three r (not_103 101 (λ e. absurd (omega arith)), (not_103 101 (λ e. absurd (omega arith)), (not_103 102 (λ e. absurd (omega arith)), tt))) there same
 
+-- of whatever says when a row was born and gone, it isn't said that there is none
+there_is : (born : ℕ) (current : Bool) → was_there (cond current (Since born) Past) ≡ true
+there_is born true = refl
+there_is born false = refl
+
+stood_somehow : (born gone : ℕ) → ¬ (NoRow ≡ stood_of born gone)
+stood_somehow born gone none = true≢false (sym (there_is born (gone == never)) ∙ sym (ap was_there none))
+
 newest_holds : WorkedNewest
 newest_holds = record {
   newest = subst (λ hs. IsNewest hs (key.Street 101) (Some changed_101_life)) (sym histories_1001) newest_101;
@@ -377,6 +387,10 @@ newest_holds = record {
   past = refl;
   since = refl;
   never = refl;
+  says_since = (1, 1000000, refl, refl, refl);
+  says_past = (2, 4, refl, refl, refl);
+  says_never = refl;
+  says_not_never = λ said. stood_somehow said.0 said.1 said.4;
 }
 
 pub worked_examples_hold : WorkedExamples

@@ -23,7 +23,7 @@ use Rattle.gaz_overlay.specs.Rows.{HistoryRow, IsUntil, never}
 use Rattle.gaz_tables.proofs.ReceivedOnce.{once}
 use Rattle.gaz_tables.proofs.Staying.{stays}
 use Rattle.gaz_tables.specs.Receiveds as table
-use Rattle.gaz_tables.specs.Receiveds.{IsVolume, Rejects, unjudged}
+use Rattle.gaz_tables.specs.Receiveds.{IsVolume, Rejects}
 use Rattle.gaz_tables.specs.Schema.{received, version2}
 use Rattle.gaz_tables.specs.Stores.{ChangesTable, HasTables}
 use Rattle.gaz_tables.specs.Tables.{rows_of}

@@ -8,7 +8,7 @@ use Rattle.gaz_records.specs.declared.item.Item.{Item}
 use Rattle.gaz_records.specs.declared.item.Kind.TheVariants as kind
 use Rattle.gaz_records.specs.declared.key.Key.{Key}
 use Rattle.gaz_cells.specs.Ids.{key_named}
-use Rattle.gaz_overlay.specs.Questions.{has_key}
+use Rattle.gaz_ledger.specs.Indexes.{has_key}
 use Rattle.gaz_kept.specs.Decoding.{IsItemAt}
 use Rattle.gaz_kept.specs.Versions.{text_in}
 

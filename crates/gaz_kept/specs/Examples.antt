@@ -16,7 +16,8 @@ use Rattle.gaz_tables.specs.Receiveds.{judged, unjudged}
 use Rattle.gaz_kept.specs.Contents.{board_in}
 use Rattle.gaz_kept.specs.Files.{files_in, judged_in, reached_in, verdicts_in}
 use Rattle.gaz_kept.specs.Kept.{AreInTurn, AreFirst, IsFile, IsVersion}
-use Rattle.gaz_kept.specs.Newest.{IsNewest, IsNewestUntil, current_in, item_after, stood_by}
+use Rattle.gaz_kept.specs.Newest.{IsNewest, IsNewestUntil, SaysStood, current_in, item_after}
+use Rattle.gaz_kept.specs.Newest.{stood_by}
 use Rattle.gaz_kept.specs.Versions.{histories_in, history_in, living, values_of, view_in}
 use Rattle.gaz_kept.specs.declared.newest.Life.{Life}
 
@@ -127,6 +128,13 @@ changed_101_life = record { born = 2; gone = 4; item = changed }
 abbrev pub current_life : Life
 current_life = record { born = 1; gone = 1000000; item = street 101 }
 
+-- rows of born and gone alone, whose items can't be read
+abbrev pub bare_current : Row
+bare_current = Int (pos 1) ∷ Int (pos 1000000) ∷ []
+
+abbrev pub bare_past : Row
+bare_past = Int (pos 2) ∷ Int (pos 4) ∷ []
+
 pub record WorkedNewest : Type 0 where
   pub newest : IsNewest (histories_in four_rows 1001) (key.Street 101) (Some changed_101_life)
   pub until_1 : IsNewestUntil 1 (histories_in four_rows 1001) (key.Street 101) (Some inserted_101)
@@ -138,6 +146,10 @@ pub record WorkedNewest : Type 0 where
   pub past : stood_by (Some changed_101_life) ≡ Past
   pub since : stood_by (Some current_life) ≡ Since 1
   pub never : stood_by None ≡ NoRow
+  pub says_since : SaysStood (bare_current ∷ []) (Since 1)
+  pub says_past : SaysStood (bare_past ∷ bare_current ∷ []) Past
+  pub says_never : SaysStood [] NoRow
+  pub says_not_never : ¬ SaysStood (bare_past ∷ []) NoRow
 
 pub record WorkedExamples : Type 0 where
   pub on_views : WorkedViews

@@ -116,7 +116,7 @@ fn item_of(alloc: Global, key: &Key, body: &[u8]) -> Result<Item, RowFault>
     read_at(key, item_of_text(alloc, kind_in(key), body))
 }
 
-// The same by a reader of many bodies.
+// The item of a body, read by a reader of many bodies, where it stands at the key.
 fn next_item(bodies: &mut Bodies<'_>, key: &Key, body: &[u8]) -> Result<Item, RowFault>
     ensures { IfOk result (IsBodyOf key.now body.now) }
 {
@@ -134,7 +134,7 @@ pub fn item_in(alloc: Global, key: &Key, row: &Row, at: usize) -> Result<SharedI
     }
 }
 
-/// The same by a reader of the bodies of many rows.
+/// The item at a key that the body in a column says, read by a reader of the bodies of many rows.
 pub fn next_item_in(
     alloc: Global,
     bodies: &mut Bodies<'_>,

@@ -1,7 +1,7 @@
 //! Keys in their order.
 ghost use Rattle.std.specs.Prelude.{◌≡◌, ◌||◌, IfOk, OnOk};
 ghost use Rattle.std.specs.List.Sorted.{IsStrictlySortedBy};
-ghost use Rattle.gaz_overlay.specs.Questions.{has_key};
+ghost use Rattle.gaz_ledger.specs.Indexes.{has_key};
 ghost use Rattle.gaz_records.specs.declared.key.Key.{Key};
 ghost use Rattle.gaz_kept.specs.Addresses.{AreInOrder};
 

@@ -111,7 +111,7 @@ fn read_meta<S: Alter>(
     Ok(told(&rows, number, text))
 }
 
-// The same, where a failure is told as a refusal.
+// What the rows of `meta` tell of a number and a register; a failure is told as a refusal.
 pub(crate) fn compared<S: Alter>(
     conn: &mut Connection<S>,
     number: u32,

@@ -9,7 +9,7 @@ use Rattle.std.specs.List.{All, list_any}
 use Rattle.std.specs.Map.{lookup}
 use Rattle.std.specs.Ordering.{eq_by_cmp, nat_cmp}
 use Rattle.gaz_histories.specs.Histories.{Version, Versions, before, standing_at, until}
-use Rattle.gaz_views.specs.View.{View, empty_view}
+use Rattle.gaz_views.specs.View.{empty_view}
 use Rattle.gaz_views.specs.declared.custody.Custody.{Custody}
 use Rattle.gaz_ledger.proofs.KeyHistories.{first_view, settled_view}
 use Rattle.gaz_ledger.proofs.RowsAt.{same_rows}
@@ -196,10 +196,6 @@ AreWithin n g c = ((k : Key) → All (λ (e : ItemVersion). (0 < e.0) × (e.0 �
 
 pub same_with : (g h : KeyHistories) (c d : Custodies) (v w : ℕ) → view_at g v ≡ view_at h w → custody_after c v ≡ custody_after d w → view_with g c v ≡ view_with h d w
 same_with g h c d v w items custody = λ i. record (items i) { custody = custody i }
-
--- a change of what stands at keys alone
-pub items_with : (c : Custodies) (v : ℕ) (f : View → View) (a b : View) → a ≡ f b → record a { custody = custody_after c v } ≡ record (f b) { custody = custody_after c v }
-items_with c v f a b is = ap (λ (w : View). record w { custody = custody_after c v }) is
 
 -- the working view is that of any later volume too
 pub later_with : (n : ℕ) (g : KeyHistories) (c : Custodies) → AreWithin n g c → (v w : ℕ) → n < v → n < w → view_with g c v ≡ view_with g c w

@@ -17,7 +17,7 @@ use Rattle.gaz_records.specs.declared.item.Item.TheVariants as item
 use Rattle.gaz_records.specs.declared.key.Key.{Key}
 use Rattle.gaz_records.specs.declared.key.Key.TheVariants as key
 use Rattle.gaz_views.specs.Accounts.{Account, last_of}
-use Rattle.gaz_views.specs.Numbered.{as_blpu}
+use Rattle.gaz_views.specs.Numbered.{as_blpu, with_adopted}
 use Rattle.gaz_views.specs.View.{View, with_item}
 use Rattle.gaz_views.specs.declared.custody.Custody.{Custody}
 use Rattle.gaz_views.specs.declared.custody.Custody.TheVariants.{Adopted}
@@ -28,7 +28,6 @@ use Rattle.gaz_ledger.proofs.Judgements.{working_now}
 use Rattle.gaz_ledger.proofs.KeyHistories.{contains_at, get_now, same_views}
 use Rattle.gaz_ledger.proofs.Touched.{none_of}
 use Rattle.gaz_ledger.proofs.Versions.{item_set, until_set, used_set}
-use Rattle.gaz_ledger.specs.Adopting.{with_adopted}
 use Rattle.gaz_ledger.specs.Changing.{SetsAt, with_working}
 use Rattle.gaz_ledger.specs.Custodies.{Custodies, PassesAt, custody_after, passed_at, view_with, with_passing}
 use Rattle.gaz_ledger.specs.KeyHistories.{KeyHistories, versions_at, view_at}

@@ -80,24 +80,9 @@ may_all t none n k = ap (λ (o : Option TiedKeys). option_map_or (λ ks. is_tied
 pub ties_none : (t : Ties) (g : KeyHistories) (v w : ℕ) → t.counted ≡ None → AreTies t g v w
 ties_none t g v w none = ((λ n k is. may_all t none n k), (λ n k is. may_all t none n k))
 
-pub notes_none : (t s : Ties) (o : Option Item) (key : Key) → s.counted ≡ None → NotesTie t s o key
-notes_none t s o key none = record { kept = λ n k may. may_all s none n k; noted = λ n is. may_all s none n key }
-
 -- once they are
 pub may_some : (t : Ties) (x : TiedKeys) → t.counted ≡ Some x → (n : ℕ) (k : Key) → may_tie t n k ≡ is_tied x n k
 may_some t x some n k = ap (λ (o : Option TiedKeys). option_map_or (λ ks. is_tied ks n k) o true) some
-
-pub ties_some : (t : Ties) (x : TiedKeys) (g : KeyHistories) (v w : ℕ) → t.counted ≡ Some x → ((k : Key) → IsTiedTo x (named_at g v k) k) → ((k : Key) → IsTiedTo x (named_at g w k) k) → AreTies t g v w
-ties_some t x g v w some first next = ((λ n k is. may_some t x some n k ∙ first k n is), (λ n k is. may_some t x some n k ∙ next k n is))
-
-pub notes_some : (t s : Ties) (x y : TiedKeys) (o : Option Item) (key : Key) → t.counted ≡ Some x → s.counted ≡ Some y → KeepsTies x y → IsTiedTo y (option_and_then named_by o) key → NotesTie t s o key
-notes_some t s x y o key was now kept tied = record {
-  kept = λ n k may. may_some s y now n k ∙ kept n k (sym (may_some t x was n k) ∙ may);
-  noted = λ n is. may_some s y now n key ∙ tied n is;
-}
-
-pub notes_nothing : (t : Ties) (key : Key) → NotesTie t t None key
-notes_nothing t key = record { kept = λ n k may. may; noted = λ n is. cc }
 
 -- ---- all items gone through
 
@@ -136,9 +121,6 @@ left_none x g v all rest es is keys none left k = by_stored (lookup (eq_by_cmp k
     by_stored (Some vs) at = by_left (left k (keys k (ap is_some at)))
 
 -- ---- what goes on being found
-
-pub ties_kept : (t s : Ties) (g : KeyHistories) (v w : ℕ) (o : Option Item) (key : Key) → NotesTie t s o key → AreTies t g v w → AreTies s g v w
-ties_kept t s g v w o key notes ties = ((λ n k is. notes.kept n k (ties.0 n k is)), (λ n k is. notes.kept n k (ties.1 n k is)))
 
 pub ties_set : (t s : Ties) (g h : KeyHistories) (m : ℕ) (o : Option Item) (key : Key) → NotesTie t s o key → SetsAt g h (m + 1) key o → AreTies t g m (m + 1) → AreTies s h m (m + 1)
 ties_set t s g h m o key notes change ties = (last_found, working_found)

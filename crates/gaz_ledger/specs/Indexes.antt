@@ -42,6 +42,7 @@ listed (Many s) = s.keys
 abbrev pub keys_under : Index → Mark → List Key
 keys_under x m = option_map_or listed (lookup (same_mark m) x.by_mark.entries) []
 
+-- a key is one of these
 abbrev pub has_key : List Key → Key → Bool
 has_key ks k = list_any (eq_by_cmp key_cmp k) ks
 

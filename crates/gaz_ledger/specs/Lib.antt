@@ -5,7 +5,6 @@ pub mod KeyHistoriesCode
 pub mod Ties
 pub mod Custodies
 pub mod CustodiesCode
-pub mod Adopting
 pub mod Ledgers
 pub mod Properties
 pub mod Changing

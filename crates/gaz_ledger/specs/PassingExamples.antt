@@ -10,7 +10,7 @@ use Rattle.gaz_views.specs.Examples.{blpu, council_tax, lpi, street}
 use Rattle.gaz_views.specs.View.{custody_at, empty_view, holds, was_used, with_adoption}
 use Rattle.gaz_views.specs.View.{with_release}
 use Rattle.gaz_views.specs.declared.custody.Custody.TheVariants.{Adopted, Released}
-use Rattle.gaz_ledger.specs.Adopting.{with_adopted}
+use Rattle.gaz_views.specs.Numbered.{with_adopted}
 use Rattle.gaz_ledger.specs.Custodies.{Custodies, IsPassing, view_with, with_passing}
 use Rattle.gaz_ledger.specs.KeyHistories.{KeyHistories}
 use Rattle.gaz_ledger.specs.Passages.{with_passage}

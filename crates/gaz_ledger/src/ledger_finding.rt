@@ -158,7 +158,7 @@ impl Ledger {
     }
 
     /// Whether an LPI or a cross reference, of whatever status, names a BLPU, in the last view or
-    /// the working one. The first time in a judgement all items are gone through.
+    /// the working one. Where what names BLPUs isn't counted yet, all items are gone through first.
     pub(crate) fn tied(&mut self, volume: u64, uprn: Uprn) -> Result<bool, AllocError>
         requires { length self.old.judged ≤ volume }
         ensures tied { IfOk result (λ is. is ≡ tied (view_in self.old volume) uprn) }

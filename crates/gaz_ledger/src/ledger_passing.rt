@@ -4,9 +4,8 @@ ghost use Rattle.std.specs.Option.{IfSome, IsSome};
 ghost use Rattle.gaz_records.specs.Keys.{key_of};
 ghost use Rattle.gaz_records.specs.declared.key.Key.TheVariants as key;
 ghost use Rattle.gaz_views.specs.Accounts.{view_in};
-ghost use Rattle.gaz_views.specs.Numbered.{as_blpu};
+ghost use Rattle.gaz_views.specs.Numbered.{as_blpu, with_adopted};
 ghost use Rattle.gaz_views.specs.View.{custody_at, with_release};
-ghost use Rattle.gaz_ledger.specs.Adopting.{with_adopted};
 ghost use Rattle.gaz_ledger.specs.Changing.{AreMarksAt, with_working};
 ghost use Rattle.gaz_ledger.specs.Custodies.{with_passing};
 

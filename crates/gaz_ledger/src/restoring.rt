@@ -117,7 +117,8 @@ fn live_marked(
     Ok(histories.live(born, gone, key, item)?)
 }
 
-// The same. Where memory runs out, the key is no more under marks than it was.
+// An item stands at a key from a volume on, and until another where one is given. Where memory runs
+// out, the key is no more under marks than it was.
 fn live_found(
     histories: &mut Histories,
     index: &mut Index,

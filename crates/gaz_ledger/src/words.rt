@@ -16,6 +16,7 @@ use gaz_records::{Item, Key, Kind, SharedItem, SortKey};
 use std::alloc::{AllocError, Global};
 use std::collections::HashMap;
 
+/// Whether an item is an approved LPI of a BLPU.
 pub fn is_approved_of(uprn: Uprn, item: &Item) -> bool
     ensures { result ≡ is_approved_of uprn item.now }
 {
@@ -34,6 +35,7 @@ fn is_in(lang: Option<Lang>, of: Lang) -> bool
     }
 }
 
+/// Whether an item is an approved LPI on a street, in this language where one is given.
 pub fn is_approved_on(usrn: Usrn, lang: Option<Lang>, item: &Item) -> bool
     ensures { result ≡ is_approved_on usrn lang item.now }
 {
@@ -43,6 +45,7 @@ pub fn is_approved_on(usrn: Usrn, lang: Option<Lang>, item: &Item) -> bool
     matches!(lpi.status, Status::Approved) && lpi.usrn == usrn && is_in(lang, lpi.lang)
 }
 
+/// Whether an item is a BLPU that is a part of this one.
 pub fn is_child_of(uprn: Uprn, item: &Item) -> bool
     ensures { result ≡ is_child_of uprn item.now }
 {

@@ -5,7 +5,6 @@ use Rattle.gaz_views.specs.View.{View, empty_view}
 use Rattle.gaz_keeper.specs.Board.{Board, reached, verdict_on}
 use Rattle.gaz_overlay.specs.Passages.{PassageRow, with_passages}
 use Rattle.gaz_overlay.specs.Rows as rows
-use Rattle.gaz_overlay.specs.Rows.{HistoryRow}
 use Rattle.gaz_loaded.specs.Lives.{AreAtHand, AreOf, Told}
 use Rattle.gaz_shelf.specs.Restoring.{IsRestored}
 use Rattle.gaz_loaded.specs.Restoring.{AreRestored, HasPassages}
@@ -14,9 +13,6 @@ use Rattle.gaz_loaded.specs.declared.listed.Life.{Life}
 use Rattle.gaz_loaded.proofs.Lives.{restored_is}
 
 -- ---- one more
-
-pub restored_none : (board : Board) → AreRestored board [] board
-restored_none board = refl
 
 pub restored_more : (old mid new : Board) (xs : List Life) (x : Life) → AreRestored old xs mid → IsRestored mid new x.code x.born x.gone x.item → AreRestored old (xs ++ x ∷ []) new
 restored_more old mid new [] x before now = (new, subst (λ b. IsRestored b new x.code x.born x.gone x.item) before now, refl)

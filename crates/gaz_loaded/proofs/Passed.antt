@@ -1,13 +1,12 @@
 -- What became of custodians' numbers, once all of it is put back.
-use Rattle.std.proofs.Common.{◌≡◌, ◌≢◌, ◌∙◌, ◌≤◌, ◌<◌, ◌==◌, ◌++◌, ◌⊎◌, inl, inr, ℕ, Bool, true, false, List, [], ◌∷◌, refl, sym, ap, subst, arith, eqb-true}
+use Rattle.std.proofs.Common.{◌≡◌, ◌∙◌, ◌≤◌, ◌==◌, ◌++◌, ◌⊎◌, inl, inr, ℕ, Bool, true, false, List, [], ◌∷◌, refl, sym, ap, subst, arith, eqb-true}
 use Rattle.std.proofs.lemmas.Bool.{eqb-false}
 use Rattle.std.specs.Prelude.{Option, None, length, slice_get, unwrap_or}
 use Rattle.sqlite_rules.specs.Lists.{Has}
-use Rattle.gaz_views.specs.View.{View, empty_view}
+use Rattle.gaz_views.specs.View.{empty_view}
 use Rattle.gaz_keeper.specs.Board.{Board, Judgement, reached, view_after, views}
 use Rattle.gaz_keeper.specs.Keeper.{Content, Seen}
-use Rattle.gaz_overlay.specs.Passages.{PassageRow, with_passages}
-use Rattle.gaz_overlay.specs.Rows.{never}
+use Rattle.gaz_overlay.specs.Passages.{PassageRow}
 use Rattle.gaz_loaded.specs.Files.{OnlyReads}
 use Rattle.gaz_loaded.specs.Lives.{AreOf, Told}
 use Rattle.gaz_loaded.specs.Passing.{AreToldInTurn, ComesBehind}
@@ -15,7 +14,7 @@ use Rattle.gaz_loaded.specs.Restoring.{ArePutBack, BringsItsPassages, BringsPass
 use Rattle.gaz_loaded.specs.declared.listed.Passage.{Passage}
 use Rattle.gaz_loaded.proofs.Copied.{has_end}
 use Rattle.gaz_loaded.proofs.Custodian.{among, has_before, has_last}
-use Rattle.gaz_loaded.proofs.PutBack.{as_many_back, put_all, views_back}
+use Rattle.gaz_loaded.proofs.PutBack.{as_many_back, views_back}
 use Rattle.gaz_loaded.proofs.ToldPassages.{IsBlankOrWhole, all_back, place_after}
 
 -- ---- of one custodian

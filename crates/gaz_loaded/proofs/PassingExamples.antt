@@ -1,5 +1,5 @@
 -- What the definitions of numbers that pass on come to on worked examples.
-use Rattle.std.proofs.Common.{◌≡◌, ◌∙◌, ◌<◌, ◌≤◌, ◌⊎◌, ◌||◌, ℕ, zero, suc, List, [], ◌∷◌, inl, inr, refl, sym, ap, subst, arith}
+use Rattle.std.proofs.Common.{◌≡◌, ◌∙◌, ◌≤◌, ◌⊎◌, ◌||◌, ℕ, zero, suc, [], inl, inr, refl, sym, ap, subst, arith}
 use Rattle.std.specs.Prelude.{Option, Some, None, filter, map}
 use Rattle.std.specs.Cmp.{nat_cmp_total}
 use Rattle.std.specs.FinMap as finite
@@ -9,7 +9,6 @@ use Rattle.sqlite_rules.specs.Lists.{Has}
 use Rattle.gaz_records.proofs.KeyOrder.{keys_exact, keys_total}
 use Rattle.gaz_records.specs.Keys.{key_cmp}
 use Rattle.gaz_views.specs.View.{View, empty_view}
-use Rattle.gaz_views.specs.declared.custody.Custody.{Custody}
 use Rattle.gaz_keeper.specs.Board.{view_after}
 use Rattle.gaz_keeper.specs.Keeper.{empty_content}
 use Rattle.gaz_overlay.specs.Passages.{PassageRow, custody_after, lasts_after, passed_keys, with_passages}

@@ -1,5 +1,5 @@
 -- Calls that only read, one after another.
-use Rattle.std.proofs.Common.{◌≡◌, arith, refl, ◌∙◌}
+use Rattle.std.proofs.Common.{◌≡◌, arith, refl}
 use Rattle.std.specs.Prelude.{◌≢◌, Result}
 use Rattle.gaz_keeper.specs.Keeper.{Broken, Idle, IsLeft, IsNotOpen, Open, Progress, Reads, Seen}
 use Rattle.gaz_keeper.specs.declared.fault.ShelfFault.{ShelfFault}
@@ -18,11 +18,6 @@ reads_then a b c first second =
 -- a call that reads
 pub only_reads : {T : Type 0} (a b : Seen) (r : Result T ShelfFault) (P : T → Type 0) → Reads a b r P → OnlyReads a b
 only_reads a b r P call = record { keeps = call.keeps; failures = call.counts.kept; trust = call.counts.trust }
-
-pub idle_still : (p q : Progress) → IsLeft p q → p ≡ Idle → q ≡ Idle
-idle_still Idle q left is = left
-idle_still (Open c) q left is = left ∙ is
-idle_still Broken q left is = cc
 
 -- what wasn't open and isn't broken any more is idle
 pub idle_then : (p q : Progress) → IsLeft p q → IsNotOpen p → q ≢ Broken → q ≡ Idle

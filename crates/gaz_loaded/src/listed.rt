@@ -41,7 +41,7 @@ pub trait Listed: Inbox {
     /// The lives that it lists.
     ghost lives: { Self → List Told };
 
-    /// And what became of a custodian's numbers.
+    /// What it lists of what became of a custodian's numbers.
     ghost passages: { Self → ℕ → List PassageRow };
 
     /// Received volumes of a custodian above one: some, from the least on, as they rise; none where

@@ -1,10 +1,9 @@
 -- What is gathered of a judgement, and what it makes of a view.
 use Rattle.std.specs.Prelude.{◌≡◌, Bool, if◌then◌else◌, List, Result, fold}
-use Rattle.std.specs.Option.{option_map_or}
 use Rattle.gaz_keeper.specs.Keeper.{Seen, Sets}
 use Rattle.gaz_keeper.specs.declared.fault.ShelfFault.{ShelfFault}
-use Rattle.gaz_views.specs.Numbered.{as_blpu}
-use Rattle.gaz_views.specs.View.{View, with_adoption, with_item, with_release, without_key}
+use Rattle.gaz_views.specs.Numbered.{with_adopted}
+use Rattle.gaz_views.specs.View.{View, with_item, with_release, without_key}
 use Rattle.gaz_mirror.specs.declared.gathered.Change.{Change}
 use Rattle.gaz_mirror.specs.declared.gathered.Change.TheVariants.{Adopt, Put, Release, Take}
 
@@ -13,7 +12,7 @@ abbrev pub makes : View → Change → View
 makes view (Put entry) = with_item view entry.item
 makes view (Take key) = without_key view key
 makes view (Release uprn to hop) = with_release view uprn to hop
-makes view (Adopt a) = option_map_or (λ b. with_adoption view b a.from a.hop) (as_blpu a.blpu) view
+makes view (Adopt a) = with_adopted view a.blpu a.from a.hop
 
 -- with these changes made, one after another
 abbrev pub made : View → List Change → View

@@ -6,6 +6,7 @@ use Rattle.gaz_keeper.specs.declared.shelf.Shelf.{Ghosts}
 use Rattle.gaz_mirror.specs.Mirroring.{mirrored}
 use Rattle.gaz_mirror.specs.declared.mirror.Mirror.{Mirror}
 
+-- how a mirror is seen: as its lower keeper, but for a judgement that is gathered above
 abbrev pub seen_mirrored : {L U : Type 0} → {lower : Ghosts L} → {upper : Ghosts U}
     → Mirror L U lower upper → Seen
 seen_mirrored {L} {U} {lower} {upper} m =

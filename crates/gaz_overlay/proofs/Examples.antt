@@ -17,7 +17,7 @@ use Rattle.gaz_views.proofs.Trees.{no_entries}
 use Rattle.gaz_views.specs.Examples.{one_street, street}
 use Rattle.gaz_views.specs.Lawful.{IsLawfulView}
 use Rattle.gaz_views.specs.View.{View, empty_view, was_used, with_item, without_key}
-use Rattle.gaz_overlay.specs.Changes.{Changes, Touched, no_changes, was_there, with_put, with_touched}
+use Rattle.gaz_overlay.specs.Changes.{Touched, no_changes, was_there, with_touched}
 use Rattle.gaz_overlay.specs.Examples.{WorkedChanges, WorkedExamples, WorkedRows, WorkedViews, WorkedWritings, first_put, row, three_streets, two_touched}
 use Rattle.gaz_overlay.specs.Laid.{laid, with_copied}
 use Rattle.gaz_overlay.specs.Questions.{in_order}
@@ -150,6 +150,8 @@ changes_hold = record {
   past_used = λ i. used_none (key.Street 102) i || was_there (ap (λ o. option_map_or (λ t. t.stood) o NoRow) (set_last finite.empty (key.Street 102) (record { stood = Past; last = None }) (key.Street 102) None (finite.get-empty key_cmp (key.Street 102))) i);
   second_closes_nothing = written_at (key.Street 102);
   other_not_written = written_at (key.Street 103);
+  at_once_there = one (key.Street 101) (street 101);
+  at_once_written = λ i. option_map_or (λ t. writing_of t (is_some (one (key.Street 101) (street 101) i))) (at_first (key.Street 101) i) (record { closes = None; adds = None });
 }
 
 writings_hold : WorkedWritings

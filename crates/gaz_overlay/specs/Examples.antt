@@ -6,7 +6,7 @@ use Rattle.gaz_records.specs.declared.key.Key.TheVariants as key
 use Rattle.gaz_views.specs.Examples.{one_street, street}
 use Rattle.gaz_views.specs.View.{View, empty_view, was_used, with_item, without_key}
 use Rattle.gaz_overlay.specs.Changes.{Changes, is_touched, no_changes, stood_in, was_used_in}
-use Rattle.gaz_overlay.specs.Changes.{with_put, with_taken, with_touched}
+use Rattle.gaz_overlay.specs.Changes.{with_put, with_put_first, with_taken, with_touched}
 use Rattle.gaz_overlay.specs.Laid.{laid, with_copied}
 use Rattle.gaz_overlay.specs.Over.{IsStood, key_view}
 use Rattle.gaz_overlay.specs.Questions.{both, in_order}
@@ -58,6 +58,10 @@ two_touched =
     with_taken (with_put (with_touched first_put (key.Street 102) NoRow None) (street 102))
     (key.Street 102)
 
+-- or it is put without the item that stood there
+abbrev pub put_at_once : Changes
+put_at_once = with_put_first no_changes (Since 1) (street 101)
+
 pub record WorkedChanges : Type 0 where
   pub first_touched : is_touched two_touched (key.Street 101) ≡ true
   pub other_not_touched : is_touched two_touched (key.Street 103) ≡ false
@@ -71,6 +75,9 @@ pub record WorkedChanges : Type 0 where
       ≡ record { closes = None; adds = Some (record { item = street 102; current = false }) }
   pub other_not_written : writing_at two_touched (key.Street 103)
       ≡ record { closes = None; adds = None }
+  pub at_once_there : map.get put_at_once.view.items (key.Street 101) ≡ Some (street 101)
+  pub at_once_written : writing_at put_at_once (key.Street 101)
+      ≡ record { closes = Some 1; adds = Some (record { item = street 101; current = true }) }
 
 -- a key whose current row was born in volume 1, or of which there was none, with the item put last
 abbrev pub had : Option Item → Touch

@@ -1,5 +1,5 @@
 -- Changes that lie over a last view and make a working one of it.
-use Rattle.std.specs.Prelude.{◌≡◌, ◌||◌, true, false, ℕ, Bool, Option, Some, None, is_some}
+use Rattle.std.specs.Prelude.{◌≡◌, ◌||◌, true, ℕ, Bool, Option, Some, None, is_some}
 use Rattle.std.specs.FinMap as map
 use Rattle.gaz_records.specs.Items.{is_entry}
 use Rattle.gaz_records.specs.Keys.{key_of}

@@ -3,7 +3,6 @@ use Rattle.std.specs.Prelude.{◌≡◌, ◌||◌, ◌++◌, ℕ, Bool, List, ma
 use Rattle.std.specs.FinMap as finite
 use Rattle.std.specs.List.{list_any}
 use Rattle.std.specs.Option.{option_and_then}
-use Rattle.std.specs.Ordering.{eq_by_cmp}
 use Rattle.gaz_ids.specs.declared.lang.Lang.{Lang}
 use Rattle.gaz_records.specs.Keys.{key_cmp}
 use Rattle.gaz_records.specs.declared.item.Item.{Item}
@@ -19,10 +18,6 @@ use Rattle.gaz_overlay.specs.Laid.{any_untouched, laid, untouched}
 -- these keys, each once, in their order
 abbrev pub in_order : List Key → List Key
 in_order ks = finite.keys (finite.from_entries {X = Unit {0}} {R = key_cmp} (map (λ k. (k, tt)) ks))
-
--- a key is one of these
-abbrev pub has_key : List Key → Key → Bool
-has_key ks k = list_any (eq_by_cmp key_cmp k) ks
 
 -- the keys of the items that pass a test, in the order of keys
 abbrev pub keys_with : (Item → Bool) → View → List Key

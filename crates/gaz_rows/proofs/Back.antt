@@ -1,13 +1,13 @@
 -- A row that was written reads back.
-use Rattle.std.specs.Prelude.{◌⊎◌, length, map, ◌||◌, if◌then◌else◌, take, ◌-◌}
+use Rattle.std.specs.Prelude.{length, map, ◌||◌, if◌then◌else◌, take, ◌-◌}
 use Rattle.std.proofs.Math.Seq.{take-append_seam}
-use Rattle.std.proofs.Common.{◌≡◌, ◌==◌, ◌++◌, ◌∷◌, ◌∙◌, [], ℕ, List, Bool, Some, None, refl, sym, ap, subst, true, false, append_assoc, inl, inr, suc, zero, ◌+◌, ◌≤◌, ◌<◌, arith, add-one, length-append, get_or}
+use Rattle.std.proofs.Common.{◌≡◌, ◌==◌, ◌++◌, ◌∷◌, ◌∙◌, [], ℕ, List, Bool, Some, None, refl, ap, true, false, append_assoc, inl, inr, suc, zero, ◌+◌, ◌≤◌, ◌<◌, arith, add-one, length-append, get_or}
 use Rattle.std.specs.List.{list_any}
 use Rattle.std.proofs.lemmas.List.{append-nil}
-use Rattle.std.proofs.lemmas.Bool.{cases_Bool, eqb-true, ne_eqb}
+use Rattle.std.proofs.lemmas.Bool.{cases_Bool}
 use Rattle.csv.specs.Machine.{next_record}
 use Rattle.csv.specs.Reading.{default_config, records, records_from, strip_bom}
-use Rattle.csv.specs.Writing.{default_writer, escaped, field_text, fields_text, is_blank, needs_byte, read_back, row_body, row_text}
+use Rattle.csv.specs.Writing.{default_writer, field_text, fields_text, is_blank, needs_byte, read_back, row_body, row_text}
 use Rattle.csv.specs.declared.parser.State.TheVariants as st
 use Rattle.csv.proofs.RoundTrip.{plain-run, quoted-run, field-run, start-same, record-same, read-write}
 use Rattle.gaz_rows.specs.Rows.{AllFilled, Fields, RowsReadBack, line_of, lines_of, one_row, only}

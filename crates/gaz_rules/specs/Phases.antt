@@ -1,5 +1,5 @@
 -- What the phases of a judgement tell.
-use Rattle.std.specs.Prelude.{◌≡◌, ◌≢◌, ◌≤◌, ℕ, List, [], ◌∷◌, ◌++◌, IfNone, Option, Some, None}
+use Rattle.std.specs.Prelude.{◌≡◌, ◌≢◌, ◌≤◌, ℕ, List, ◌++◌, IfNone, Option, Some, None}
 use Rattle.std.specs.Prelude.{Result, IfOk, OnOk, OnErr}
 use Rattle.std.specs.Option.{option_map}
 use Rattle.std.specs.List.{fold}
@@ -13,16 +13,13 @@ use Rattle.gaz_keeper.specs.declared.fault.ShelfFault.{ShelfFault}
 use Rattle.gaz_views.specs.declared.verdict.Verdict.{Verdict}
 use Rattle.gaz_views.specs.declared.verdict.Verdict.TheVariants.{Applied, Rejected}
 use Rattle.gaz_register.specs.Registers.{Blocks}
+use Rattle.gaz_views.specs.Words.{first_of}
 use Rattle.gaz_rules.specs.Bases.{basis_views}
 use Rattle.gaz_rules.specs.Judging.{Fault, end_faults, record_faults}
 use Rattle.gaz_rules.specs.Rules.{effect}
 use Rattle.gaz_rules.specs.declared.judging.Fault as found
 
 -- ---- what is found
-
-abbrev pub first_of : List Fault → Option Fault
-first_of [] = None
-first_of (f ∷ fs) = Some f
 
 -- the answer is the first of these faults
 abbrev pub IsFirst : List Fault → Option found.Fault → Type 0

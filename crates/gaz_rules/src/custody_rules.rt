@@ -14,7 +14,7 @@ use gaz_ids::{Code, Hop, Uprn};
 use gaz_keeper::{Shelf, ShelfFault};
 use gaz_records::{Adopt, Release};
 use gaz_register::Register;
-use gaz_views::Custody;
+use gaz_views::{Custody, hop_of};
 
 // Whether a number is held of which this became last, and which is or isn't of the own blocks.
 fn is_holding(allotted: bool, custody: &Option<Custody>) -> bool
@@ -24,18 +24,6 @@ fn is_holding(allotted: bool, custody: &Option<Custody>) -> bool
         None => allotted,
         Some(Custody::Released { .. }) => false,
         Some(Custody::Adopted { .. }) => true,
-    }
-}
-
-// How often a number had passed on of which this became last.
-fn hop_of(custody: &Option<Custody>) -> u64
-    ensures value { result ≡ hop_of custody.now }
-    ensures range { result ≤ 9999 }
-{
-    match custody {
-        None => 0,
-        Some(Custody::Released { hop, .. }) => hop.number(),
-        Some(Custody::Adopted { hop, .. }) => hop.number(),
     }
 }
 

@@ -28,12 +28,12 @@ pub(crate) fn item(alloc: Global, kind: Kind, row: &str) -> Result<SharedItem, R
     Ok(SharedItem::new(alloc, item)?)
 }
 
-/// The same of a kind with its row.
+/// The item that a kind with its row writes. `Misused` where it writes none.
 pub(crate) fn item_of(alloc: Global, row: Row) -> Result<SharedItem, Refusal> {
     item(alloc, row.0, row.1)
 }
 
-/// The same of many, in their order.
+/// The items that kinds with their rows write, in their order. `Misused` where one writes none.
 pub(crate) fn items_of(alloc: Global, rows: &[Row]) -> Result<Vec<SharedItem>, Refusal> {
     let mut items = Vec::new(alloc);
     for row in rows {

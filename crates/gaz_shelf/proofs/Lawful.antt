@@ -1,18 +1,17 @@
 -- The accounts of all custodians after one has changed: each view of them is a lawful one still.
-use Rattle.std.proofs.Common.{◌≡◌, ◌∙◌, ◌||◌, refl, ℕ, zero, suc, Bool, true, false, cond, List, [], ◌∷◌, ◌++◌, map, length, sym, ap, subst, slice_get, unwrap_or}
+use Rattle.std.proofs.Common.{◌≡◌, ℕ, zero, suc, Bool, true, false, cond, List, [], ◌∷◌, ◌++◌, map, length, sym, ap, subst, slice_get, unwrap_or}
 use Rattle.std.specs.Prelude.{◌==◌, Some, Result, Ok, Err, OnOk, OnErr}
 use Rattle.std.specs.BTreeMap.{BTreeMap, Updates, is_at}
 use Rattle.std.specs.Map.{lookup}
 use Rattle.std.specs.Option.{IsSome}
-use Rattle.std.specs.Ordering.{eq_by_cmp, nat_cmp}
+use Rattle.std.specs.Ordering.{nat_cmp}
 use Rattle.gaz_views.proofs.Lawful.{lawful_adopted, lawful_empty, lawful_put, lawful_released, lawful_taken}
 use Rattle.gaz_views.specs.Judgements.{Judgement}
 use Rattle.gaz_views.specs.Lawful.{IsLawfulView}
 use Rattle.gaz_views.specs.Accounts.{Account, empty_account, last_of}
 use Rattle.gaz_views.specs.View.{View, empty_view, with_item, with_release, without_key}
 use Rattle.gaz_views.specs.declared.verdict.Verdict.{Verdict}
-use Rattle.gaz_views.specs.Numbered.{as_blpu}
-use Rattle.gaz_ledger.specs.Adopting.{with_adopted}
+use Rattle.gaz_views.specs.Numbered.{as_blpu, with_adopted}
 use Rattle.gaz_records.specs.Items.{is_entry}
 use Rattle.gaz_records.specs.declared.item.Item.TheVariants as item
 use Rattle.gaz_records.specs.declared.item.Item.{Item}

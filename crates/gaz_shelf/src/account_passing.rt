@@ -1,11 +1,10 @@
 //! Numbers that are passed on, in the accounts of all custodians.
 ghost use Rattle.std.specs.Prelude.{◌≡◌, ◌≤◌, ℕ, IfOk, length, OnOk};
 ghost use Rattle.std.specs.Option.{IsSome};
-ghost use Rattle.gaz_views.specs.Numbered.{as_blpu};
+ghost use Rattle.gaz_views.specs.Numbered.{as_blpu, with_adopted};
 ghost use Rattle.gaz_views.specs.Accounts.{view_in};
 ghost use Rattle.gaz_views.specs.View.{with_release};
 ghost use Rattle.gaz_views.specs.Words.{tied};
-ghost use Rattle.gaz_ledger.specs.Adopting.{with_adopted};
 ghost use Rattle.gaz_shelf.specs.Accounts.{account_of, board_of};
 ghost use Rattle.gaz_shelf.specs.Restoring.{IsPassageRestored};
 

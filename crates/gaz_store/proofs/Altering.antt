@@ -13,7 +13,8 @@ use Rattle.gaz_sql_facts.specs.Changes.{IsUndone, LeavesTheCommit}
 use Rattle.gaz_tables.specs.Stores.{HasTables}
 use Rattle.gaz_store.specs.Altering.{Alters, AltersTables, MayWrite}
 use Rattle.gaz_store.specs.Asking.{AreReady, Asks, AsksTables, IsAnyway, Tallies, Tells}
-use Rattle.gaz_store.specs.Seen.{IsSettled, IsUnharmed}
+use Rattle.gaz_store.specs.Seen.{IsUnharmed}
+use Rattle.gaz_kept.specs.Opening.{IsSettled}
 use Rattle.gaz_store.specs.declared.tables.Tables.{Tables}
 use Rattle.gaz_store.proofs.Seeing.{clean_before, tallies_then}
 

@@ -10,9 +10,8 @@ use Rattle.gaz_sql_facts.specs.Changes.{IsSpared}
 use Rattle.gaz_tables.specs.Stores.{HasTables}
 use Rattle.gaz_store.specs.Asking.{AreReady, Asks, AsksTables, Fails, IsAnyway, Tallies, Tells}
 use Rattle.gaz_kept.specs.Kept.{IsKept}
-use Rattle.gaz_store.specs.Seen.{IsSettled}
 use Rattle.gaz_store.specs.declared.tables.Tables.{Tables}
-use Rattle.gaz_store.proofs.Seeing.{asks_as, asks_nothing, asks_probe, asks_query, asks_then, tallies_then}
+use Rattle.gaz_store.proofs.Seeing.{asks_as, asks_nothing, asks_query, asks_then, tallies_then}
 
 module _ {S : Type 0} {store : Ghosts S} where
   abbrev at : Tables S store → State
@@ -36,20 +35,6 @@ module _ {S : Type 0} {store : Ghosts S} where
     tallies = tallies_then first.failures sure.failures last.failures one result before.tallies
         (subst (λ (n : ℕ). Tallies n last.failures result) same_count tells.tallies);
     at_hand = tells.at_hand ∙ same_hand ∙ before.at_hand;
-  }
-
-  -- a query that asks for nothing of any table, and what is told of its answer
-  pub probe_asks : {A : Type 0} (first asked last : Tables S store) (answer : Result A Error) (result : Result A ShelfFault)
-      → IsSettled (at first)
-      → (HasCleanDisk (at asked) → OnOk answer (IsUnchanged (at first) (at asked)))
-      → (HasCleanDisk (at asked) → OnErr answer (IsSpared (at first) (at asked)))
-      → Survives (at first) (at asked) (λ _. ⊥)
-      → asked.failures ≡ first.failures → asked.at_hand ≡ first.at_hand
-      → Tells asked last answer result → AsksTables first last result IsAnyway
-  probe_asks {A} first asked last answer result settled stays spared leaves same_count same_hand tells = record {
-    asks = subst (λ h. Asks (at first) (state store h) result IsAnyway) (sym tells.conn) (asks_probe (at first) (at asked) answer result settled stays spared leaves);
-    tallies = subst (λ (n : ℕ). Tallies n last.failures result) same_count tells.tallies;
-    at_hand = tells.at_hand ∙ same_hand;
   }
 
   -- an answer that needs no asking

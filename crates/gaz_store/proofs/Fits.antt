@@ -31,7 +31,7 @@ use Rattle.gaz_cells.specs.Ids.{id_of, kind_in}
 use Rattle.gaz_overlay.specs.Rows.{HistoryRow, never}
 use Rattle.gaz_tables.specs.Schema.{received, version2}
 use Rattle.gaz_tables.specs.Versions as table
-use Rattle.gaz_tables.specs.Versions.{IsApproved, IsApprovedOn, IsBehind, IsHolding, IsPartOf}
+use Rattle.gaz_tables.specs.Versions.{IsApprovedOn, IsBehind, IsHolding, IsPartOf}
 use Rattle.gaz_tables.specs.Tables.{rows_of}
 use Rattle.gaz_kept.specs.Files.{reached_in}
 use Rattle.gaz_kept.specs.Kept.{IsKept, IsVersion}

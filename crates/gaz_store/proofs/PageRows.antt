@@ -30,7 +30,7 @@ use Rattle.gaz_cells.specs.Ids.{id_of, is_key, kind_in}
 use Rattle.gaz_tables.specs.Schema.{received, version2}
 use Rattle.gaz_tables.specs.Shows.{ShowsPage}
 use Rattle.gaz_tables.specs.Versions as table
-use Rattle.gaz_tables.specs.Versions.{FindsHolding, IsHolding, body_shown, id_place}
+use Rattle.gaz_tables.specs.Versions.{FindsHolding, IsHolding, body_shown}
 use Rattle.gaz_tables.specs.Tables.{rows_of}
 use Rattle.gaz_keeper.specs.Board.{reached}
 use Rattle.gaz_kept.specs.Contents.{board_of}

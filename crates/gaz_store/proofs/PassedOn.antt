@@ -14,6 +14,7 @@ use Rattle.gaz_records.specs.declared.item.Item.{Item}
 use Rattle.gaz_records.specs.declared.item.Item.TheVariants as item
 use Rattle.gaz_records.specs.declared.key.Key.TheVariants as key
 use Rattle.gaz_views.specs.Lawful.{IsLawfulView}
+use Rattle.gaz_views.specs.Numbered as numbered
 use Rattle.gaz_views.specs.Numbered.{as_blpu}
 use Rattle.gaz_views.specs.View.{View, custody_at, with_release}
 use Rattle.gaz_views.specs.declared.custody.Custody.{Custody}
@@ -28,7 +29,7 @@ use Rattle.gaz_kept.specs.LastViews.{last_in}
 use Rattle.gaz_kept.specs.NewestPassages.{HasPassage, born_of, custody_of}
 use Rattle.gaz_kept.specs.Versions.{histories_in}
 use Rattle.gaz_kept.specs.declared.passages.Passed.{Passed as Newest}
-use Rattle.gaz_store.specs.Beside.{Makes, Turns, adopted}
+use Rattle.gaz_store.specs.Beside.{Makes, Turns}
 use Rattle.gaz_store.specs.Passing.{IsToldSince, TellsPassed, passages_of}
 use Rattle.gaz_store.specs.declared.judgement.Judgement.{Judgement}
 use Rattle.gaz_store.proofs.Turning.{told_put, with_changes}
@@ -97,7 +98,7 @@ module _ (db : Database) (j : Judgement) (uprn : ℕ) (since : Option ℕ) (told
 
 -- an item, which is a BLPU of this number
 pub adopted_turns : (db : Database) (j : Judgement) (i : Item) (from hop uprn : ℕ) (since : Option ℕ) → IsSome (as_blpu i) → key_of i ≡ key.Blpu uprn → is_touched j.changes (key_of i) ≡ true → IsToldSince db j uprn since
-    → Turns db j (with_changes j (with_adopted j.changes i from hop since)) (λ w. adopted w i from hop)
+    → Turns db j (with_changes j (with_adopted j.changes i from hop since)) (λ w. numbered.with_adopted w i from hop)
 adopted_turns db j (item.Blpu b) from hop uprn since blpu own touched told w makes =
     let number : uprn ≡ b.uprn = cc in
     let its : IsToldSince db j b.uprn since = subst (λ (n : ℕ). IsToldSince db j n since) number told in
@@ -114,7 +115,7 @@ adopted_turns db j (item.Lpi x) from hop uprn since blpu own touched told w make
 adopted_turns db j (item.Release x) from hop uprn since blpu own touched told w makes = absurd (true≢false (sym blpu))
 adopted_turns db j (item.Adopt x) from hop uprn since blpu own touched told w makes = absurd (true≢false (sym blpu))
 
-pub adopted_lawful : (w : View) (i : Item) (from hop : ℕ) → IsLawfulView w → IsLawfulView (adopted w i from hop)
+pub adopted_lawful : (w : View) (i : Item) (from hop : ℕ) → IsLawfulView w → IsLawfulView (numbered.with_adopted w i from hop)
 adopted_lawful w (item.Blpu b) from hop lawful = lawful_adopted w b from hop lawful
 adopted_lawful w (item.Street x) from hop lawful = lawful
 adopted_lawful w (item.Descriptor x) from hop lawful = lawful

@@ -77,12 +77,6 @@ module _ {S : Type 0} {store : Ghosts S} where
       comes old new done c v bytes range (subst (λ h. Alters (at old) (state store h) done (Comes c v bytes)) (sym conn) here.alters) (subst (λ (n : ℕ). Tallies old.failures n done) (sym failures) here.tallies)
       (subst (λ (m : Remembered). Recounts c OneMore m new.at_hand) here.at_hand counts) tt
 
-  pub received_err : {T : Type 0} (old new : Tables S store) (r : Result T ShelfFault) (e : ShelfFault) (c v : ℕ) (bytes : List ℕ) → (1 ≤ v) × (v ≤ 999_999)
-      → AltersTables old new r (Comes c v bytes) → r ≡ Err e → Writes {T = T} old new (Err e) (IsNewIn c v) (Comes c v bytes)
-  received_err {T} old new r e c v bytes range alters is =
-      let here = subst (λ r. AltersTables old new r (Comes c v bytes)) is alters in
-      comes {T = T} old new (Err e) c v bytes range here.alters here.tallies tt here.at_hand
-
   -- ---- a volume is judged
 
   -- the next volume of a custodian is judged so: where it was recalled which is next

@@ -13,7 +13,8 @@ use Rattle.gaz_sql_facts.specs.Changes.{IsSpared}
 use Rattle.gaz_tables.specs.Stores.{HasTables}
 use Rattle.gaz_store.specs.Asking.{Asks, Tallies}
 use Rattle.gaz_kept.specs.Kept.{IsKept}
-use Rattle.gaz_store.specs.Seen.{IsSettled, IsUnharmed, Rests}
+use Rattle.gaz_store.specs.Seen.{IsUnharmed, Rests}
+use Rattle.gaz_kept.specs.Opening.{IsSettled}
 
 -- ---- what was asked
 

@@ -171,9 +171,6 @@ module _ (db : Database) (j : Judgement) (w : View) (makes : Makes db j w) where
       ap (λ (u : View). property_of u uprn) makes.made.is_laid ∙ answers.property_of uprn
       ∙ (λ i. property_at (unlaid i) uprn (approved_beside uprn i))
 
-  pub no_property_beside : (uprn : ℕ) → None ≡ map.get w.items (key.Blpu uprn) → None ≡ property_of w uprn
-  no_property_beside uprn none = ap (option_map (λ blpu. record { blpu = blpu; address = option_and_then (map.get w.items) (first_of (approved_of w uprn)) })) none ∙ sym (property_beside uprn)
-
   pub its_property_beside : (uprn : ℕ) (blpu : Item) (address : Option Item) → Some blpu ≡ map.get w.items (key.Blpu uprn) → address ≡ option_and_then (map.get w.items) (first_of (approved_of w uprn))
       → Some (record { blpu = blpu; address = address }) ≡ property_of w uprn
   its_property_beside uprn blpu address is at = by_some ∙ sym (property_beside uprn)

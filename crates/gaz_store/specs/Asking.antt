@@ -13,7 +13,8 @@ use Rattle.gaz_tables.specs.Stores.{HasTables}
 use Rattle.gaz_tables.specs.Tables.{rows_of}
 use Rattle.gaz_kept.specs.Kept.{IsKept}
 use Rattle.gaz_store.specs.Remembered.{AreSo}
-use Rattle.gaz_store.specs.Seen.{IsSettled, IsUnharmed}
+use Rattle.gaz_store.specs.Seen.{IsUnharmed}
+use Rattle.gaz_kept.specs.Opening.{IsSettled}
 use Rattle.gaz_store.specs.declared.tables.Tables.{Tables}
 
 -- no failure is forgotten, and one of the store is counted

@@ -1,10 +1,6 @@
 -- A judgement beside the tables.
-use Rattle.std.specs.Prelude.{ℕ}
-use Rattle.std.specs.Option.{option_map_or}
 use Rattle.sqlite.specs.Effect.{Database}
-use Rattle.gaz_records.specs.declared.item.Item.{Item}
-use Rattle.gaz_views.specs.Numbered.{as_blpu}
-use Rattle.gaz_views.specs.View.{View, with_adoption}
+use Rattle.gaz_views.specs.View.{View}
 use Rattle.gaz_overlay.specs.Over.{Make}
 use Rattle.gaz_overlay.specs.Rows.{AreTold}
 use Rattle.gaz_tables.specs.Schema.{version2}
@@ -26,10 +22,6 @@ pub record Makes (db : Database) (j : Judgement) (working : View) : Type 0 where
 -- after a call the changes make another working view of the same last one
 abbrev pub Turns : Database → Judgement → Judgement → (View → View) → Type 0
 Turns db old new becomes = (w : View) → Makes db old w → Makes db new (becomes w)
-
--- an item, which is a BLPU, adopted in a working view; of another one nothing becomes
-abbrev pub adopted : View → Item → (from hop : ℕ) → View
-adopted w i from hop = option_map_or (λ b. with_adoption w b from hop) (as_blpu i) w
 
 -- so it is of the working view
 abbrev pub Beside : Database → Judgement → (View → Type 0) → Type 0

@@ -105,10 +105,11 @@ module _ {S : Type 0} (g : Ghosts S) (before after : Held S) where
       → (IsUnharmed (state g before) → HasTables (state g before).now)
       → Survives (state g before) (state g after) (λ _. ⊥)
 
-  -- the only row of `meta` was of this register, and is of that one
+  -- the only row of `meta` was of this register
   abbrev pub WasOf : RegisterValue → Type 0
   WasOf register = IsOf (register_text register) (rows_of (state g before).now meta)
 
+  -- the only row of `meta` is of this register
   abbrev pub NowOf : RegisterValue → Type 0
   NowOf register = IsOf (register_text register) (rows_of (state g after).now meta)
 

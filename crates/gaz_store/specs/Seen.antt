@@ -92,7 +92,3 @@ seen_of register s at_hand progress working failures = record {
 -- the connection shows what it showed, and was open if it is
 abbrev pub Rests : State → State → Type 0
 Rests old new = HasCleanDisk new → IsTrue new.is_open → IsTrue old.is_open × (new.now ≡ old.now)
-
--- outside a transaction a connection shows what was committed
-abbrev pub IsSettled : State → Type 0
-IsSettled s = IsTrue s.is_open → s.now ≡ s.committed

@@ -48,11 +48,12 @@ is_left_part kd uprn passed e = is_of_blpu kd uprn e.1 && leaves passed (Some e.
 abbrev pub is_left_tied : ℕ → Option Changes → Key × Item → Bool
 is_left_tied uprn passed e = names uprn e.1 && leaves passed (Some e.0)
 
--- what a row of a street, of id and language, and one of a kind, of id, say of it
+-- what a row of a street, of id and language, says of it
 abbrev pub says_left : Option Lang → Option Changes → Row → Bool
 says_left lang passed r =
     says_lang lang r && leaves passed (key_named kind.Lpi (text_in (column r 0)))
 
+-- what a row of a kind, of id, says of it
 abbrev pub names_left : Kind → Option Changes → Row → Bool
 names_left kd passed r = leaves passed (key_named kd (text_in (column r 0)))
 

@@ -4,7 +4,7 @@ ghost use Rattle.std.specs.Prelude.{IsTrue, OnOk};
 ghost use Rattle.sqlite.specs.Held.{state};
 ghost use Rattle.sqlite.specs.State.{HasCleanDisk};
 ghost use Rattle.gaz_store.specs.Asking.{AreReady, AsksTables, Fails, IsAnyway, Tells};
-ghost use Rattle.gaz_store.specs.Seen.{IsSettled};
+ghost use Rattle.gaz_kept.specs.Opening.{IsSettled};
 
 use crate::tables::Tables;
 use gaz_keeper::ShelfFault;

@@ -36,7 +36,7 @@ impl<S: Alter> Tables<S> {
         self.told(found)
     }
 
-    // Of those that were born in this volume or before, the newest.
+    // The newest row of kind 92 of this id that was born in this volume or before.
     fn custody_rows_until(
         &mut self,
         code: Code,

@@ -86,7 +86,7 @@ impl<S: Alter> Tables<S> {
         self.told(done)
     }
 
-    // Gives it that of this register.
+    // Gives the row of `meta` the text of this register.
     fn write_register(&mut self, register: &Register) -> Result<(), ShelfFault>
         ensures { AltersTables self.old self.new result (Registers (register_text register.now)) }
     {

@@ -3,10 +3,10 @@ ghost use Rattle.std.specs.Prelude.{◌≡◌, true, false, None, IsSome, OnErr,
 ghost use Rattle.gaz_overlay.specs.Changes.{is_touched, no_changes};
 ghost use Rattle.gaz_records.specs.Items.{is_entry};
 ghost use Rattle.gaz_records.specs.Keys.{key_of};
-ghost use Rattle.gaz_views.specs.Numbered.{as_blpu};
+ghost use Rattle.gaz_views.specs.Numbered.{as_blpu, with_adopted};
 ghost use Rattle.gaz_views.specs.View.{with_item, with_release, without_key};
 ghost use Rattle.gaz_store.specs.Asking.{AsksTables};
-ghost use Rattle.gaz_store.specs.Beside.{Turns, adopted};
+ghost use Rattle.gaz_store.specs.Beside.{Turns};
 ghost use Rattle.gaz_store.specs.Passing.{IsToldSince, MayKnow, knows_none};
 
 use crate::tables::Tables;
@@ -194,7 +194,7 @@ impl Judgement {
     ) -> Result<(), ShelfFault>
         requires { IsSome (as_blpu blpu) }
         ensures asks { AsksTables tables.old tables.new result
-            (λ db _. Turns db self.old self.new (λ w. adopted w blpu from hop)) }
+            (λ db _. Turns db self.old self.new (λ w. with_adopted w blpu from hop)) }
         ensures code { self.new.code ≡ self.old.code }
     {
         let key = key_of(&blpu);

@@ -40,7 +40,7 @@ impl<S: Alter> Tables<S> {
         self.told(found)
     }
 
-    // Of those that were born in this volume or before, the newest.
+    // The newest row of a key of this kind and id that was born in this volume or before.
     fn newest_rows_until(
         &mut self,
         code: Code,

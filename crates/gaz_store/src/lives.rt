@@ -30,7 +30,7 @@ impl<S: Alter> Tables<S> {
         self.told(found)
     }
 
-    // Those behind a rowid.
+    // The rows behind a rowid, by rising rowids: the first so many.
     fn rows_behind(&mut self, after: i64) -> Result<Vec<Row>, ShelfFault>
         ensures { AsksTables self.old self.new result
             (λ db rows. FindsBehind after MOST (rows_of db version2) rows.items) }
@@ -42,7 +42,7 @@ impl<S: Alter> Tables<S> {
         self.told(found)
     }
 
-    // The same, or from the first row.
+    // The rows behind a rowid, or from the first: the first so many.
     fn rows_in_turn(&mut self, after: Option<i64>) -> Result<Vec<Row>, ShelfFault>
         ensures { AsksTables self.old self.new result (λ db rows.
             FindsInTurn (IsRowBehind after) MOST (rows_of db version2) rows.items) }

@@ -39,7 +39,8 @@ fn start_after(alloc: Global, kind: Kind, key: &Key) -> Result<Option<String>, R
     Ok(Some(name))
 }
 
-// The same after a key, or from the start.
+// The text behind which the ids of a kind stand after a key, or from the start; none where no key
+// of the kind comes after it.
 fn start_of(alloc: Global, kind: Kind, after: Option<Key>) -> Result<Option<String>, RowFault>
     ensures { IfOk result (λ start. IsStart kind after (option_map string_bytes start)) }
 {
@@ -101,7 +102,8 @@ impl<S: Alter> Tables<S> {
         self.told(found)
     }
 
-    // The same, where more may be wanted than a statement is asked for.
+    // Id and body of the rows of a kind that hold after a volume, behind an id: the first so many,
+    // also where that is more than a statement is asked for.
     fn holding_all(
         &mut self,
         code: Code,
@@ -144,7 +146,7 @@ impl<S: Alter> Tables<S> {
         }
     }
 
-    // The same from where a page begins.
+    // The first `most` items of a kind after a volume, behind a text; none where there is no text.
     fn page_from(
         &mut self,
         code: Code,

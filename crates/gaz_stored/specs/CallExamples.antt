@@ -63,8 +63,8 @@ module _ {S : Type 0} (g : Ghosts S) (conn : Held S) (refused : IsRefused g conn
         → ¬ FollowOn g worked_database (in_vain ∷ [])
     pub left : found_last g bare_database (in_vain ∷ []) ≡ (state g conn).now
     pub left_by_none : found_last g bare_database [] ≡ bare_database
-    -- the one run of calls that were refused is of nothing; behind one, that of a call of one period
-    -- is of just that
+    -- the one run of calls that were refused is of nothing; behind one, that of a call of one
+    -- period is of just that
     pub of_nothing : (register : RegisterValue) (db : Database)
         (it : AreOneRun g register db (in_vain ∷ in_vain ∷ [])) → it.periods ≡ []
     pub of_one : (register : RegisterValue) (db : Database) (call : Call g) (p : Period)

@@ -61,6 +61,7 @@ module _ {S : Type 0} (g : Ghosts S) where
     CutOff : LeavesItself (state g before) → MayBeLeft (state g after) found
         → IsFoundAfter before after found
 
+  -- a call, what it came to, and what is found after it
   pub record Call : Type 0 where
     pub before : Held S
     pub after : Held S

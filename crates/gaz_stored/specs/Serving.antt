@@ -38,12 +38,13 @@ pub data TalksOrRests {K : Type 0} (seen : K → Seen) (most : ℕ) (old new : H
   Talked : Talks seen most old new met → TalksOrRests seen most old new met
   Rested : Rests old new met → TalksOrRests seen most old new met
 
--- what it was asked and said meanwhile
+-- what it was asked meanwhile
 abbrev pub commands_at : {K : Type 0} {seen : K → Seen} {most : ℕ} {old new : Hub K}
     {met : List Meeting} → TalksOrRests seen most old new met → List Command
 commands_at (Talked talk) = commands_of talk.conversation.exchanges
 commands_at (Rested rest) = []
 
+-- what it said meanwhile
 abbrev pub responses_at : {K : Type 0} {seen : K → Seen} {most : ℕ} {old new : Hub K}
     {met : List Meeting} → TalksOrRests seen most old new met → List Response
 responses_at (Talked talk) = responses_of talk.conversation.exchanges

@@ -18,11 +18,11 @@ use Rattle.gaz_stored.specs.Runs.{IsStoreOf, hub_in}
 
 -- ---- a run that is cut off
 
--- settling is cut off, which is 51; the file of a submission is received and not settled, which is
--- 52
+-- settling is cut off, which is 51
 abbrev pub cut_settling : Response
 cut_settling = Replied Settle (Err (NotReceived Store))
 
+-- a file was received and not settled, which is 52
 abbrev pub cut_receiving : Response
 cut_receiving = Submitted (Refused (ReceivedUnsettled Store))
 

@@ -7,10 +7,10 @@ use std::alloc::Global;
 /// Where peers come from, one after another. What came of each is told, where that is known; of
 /// those at a port of the system it isn't.
 pub trait Peers {
-    /// What a peer says is read from this,
+    /// From this it is read what a peer says.
     type Reader: Source + Drop;
 
-    /// and what it is told is written to this.
+    /// To this it is written what a peer is told.
     type Writer: Sink + Drop;
 
     // This came from the one state to the other.

@@ -1,5 +1,5 @@
 -- A statement within a transaction, and one call after another.
-use Rattle.std.proofs.Common.{◌≡◌, ◌⊎◌, inl, inr, le_refl, ◌∙◌, ℕ, Bool, true, false, cond, List, Option, Some, None, Vec, Result, Ok, Err, IfOk, OnOk, arith, refl, sym, ap, subst}
+use Rattle.std.proofs.Common.{◌≡◌, ◌⊎◌, inl, inr, ◌∙◌, ℕ, Bool, true, false, cond, List, Option, Some, None, Vec, Result, Ok, Err, IfOk, OnOk, arith, refl, sym, ap, subst}
 use Rattle.std.specs.Prelude.{IsTrue, IfErr}
 use Rattle.std.specs.declared.alloc.Global.{Global}
 use Rattle.std.specs.Result.{IsErr}
@@ -9,19 +9,15 @@ use Rattle.sqlite.proofs.StateLemmas.{survives_then}
 use Rattle.sqlite.specs.Held.{Held, state}
 use Rattle.sqlite.specs.Order.{Row}
 use Rattle.sqlite.specs.Schema.{Schema}
-use Rattle.sqlite.specs.Table.{Table}
 use Rattle.sqlite.specs.Clock.{timed}
 use Rattle.sqlite.specs.State.{State, HasCleanDisk, ExecutesInside, FailsToQuery, IsTooLate, KeepsCommit, Shown, ShowsRows, Survives}
 use Rattle.sqlite.specs.declared.error.Error.{Error}
 use Rattle.sqlite_trees.specs.declared.store.Store.{Ghosts}
 use Rattle.sqlite_trees.specs.Tree.{Trees}
 use Rattle.gaz_sql_facts.proofs.Texts.{spared_query}
-use Rattle.gaz_sql_facts.specs.Changes.{InPlace}
 use Rattle.gaz_tables.specs.Creating.{Gains, Widens}
 use Rattle.gaz_tables.proofs.Growing.{gains_both}
-use Rattle.gaz_tables.specs.Stores.{ChangesTable, HasTables, KeepsTables, StaysInside, WasOpen, WritesInside}
-use Rattle.gaz_tables.specs.Tables.{HasTable}
-use Rattle.gaz_tables.proofs.Staying.{tables_now}
+use Rattle.gaz_tables.specs.Stores.{StaysInside, WasOpen}
 
 -- ---- a statement
 
@@ -90,9 +86,6 @@ module _ {S A B : Type 0} (g : Ghosts S) (old mid new : Held S) (x : A) (r : Res
     leaves = survives_then (state g old) (state g mid) (state g new) (λ _. ⊥) (λ _. ⊥) (λ _. ⊥) (λ clean db never. never) (λ clean db never. never) first.leaves second.leaves;
   }
 
-  pub tables_then : KeepsTables g old mid (Ok x) → KeepsTables g mid new r → KeepsTables g old new r
-  tables_then one two clean has = two clean (one (clean_before clean) has)
-
   -- what a database gains by one call and then by another, where the second has its room once the first is done
   pub widens_then : (First Second Both : Schema → Type 0) (between gets : Schema → Schema) → (Both (state g old).now.schema → First (state g old).now.schema)
       → (Both (state g old).now.schema → Gains (between (state g old).now.schema) (state g old).now (state g mid).now → Second (between (state g old).now.schema))
@@ -112,15 +105,6 @@ pub none_done : {B : Type 0} (P : Type 0) (q : Result B Error) → IsErr q → O
 none_done P (Err e) failed = tt
 none_done P (Ok y) failed = absurd (let no = failed in cc)
 
--- a statement leaves the tables there
-pub keeps_tables : {S : Type 0} (g : Ghosts S) (old new : Held S) (table : Table) (Becomes : List Row → List Row → Type 0) (r : Result ℕ Error)
-    → (HasTables (state g old).now → HasTable table (state g old).now.schema) → WritesInside g old new table r Becomes → KeepsTables g old new r
-keeps_tables g old new table Becomes r there writes clean has = by_result r (writes clean has)
-  where
-    by_result : (r : Result ℕ Error) → OnOk r (ChangesTable table Becomes (state g old).now (state g new).now × InPlace (state g old) (state g new)) → OnOk r (HasTables (state g new).now)
-    by_result (Err e) h = tt
-    by_result (Ok count) h = tables_now table Becomes (state g old).now (state g new).now (there has) h.0 has
-
 module _ {S A B : Type 0} (g : Ghosts S) (old new : Held S) where
   -- what is done answers another value, or a fault
   pub inside_done : (x : A) (y : B) → StaysInside g old new (Ok x) → StaysInside g old new (Ok y)
@@ -128,21 +112,6 @@ module _ {S A B : Type 0} (g : Ghosts S) (old new : Held S) where
 
   pub inside_failed : (r : Result A Error) (q : Result B Error) → IsErr q → StaysInside g old new r → StaysInside g old new q
   inside_failed r q failed h = record { goes_on = λ clean. none_done _ q failed; kept = h.kept; leaves = h.leaves }
-
--- no call is one that is done
-pub inside_still : {S A : Type 0} (g : Ghosts S) (h : Held S) (x : A) → StaysInside g h h (Ok x)
-inside_still g h x = record {
-  goes_on = λ clean. refl;
-  kept = λ clean. record { was_open = λ is_open. is_open; committed = λ is_open. refl };
-  leaves = record {
-    clean = le_refl _;
-    shield = λ same. same;
-    counts = le_refl _;
-    limit = refl;
-    closes = λ clean is_open. inl is_open;
-    crash = λ clean db left. inl left;
-  };
-}
 
 -- ---- a transaction of its own
 

@@ -104,10 +104,6 @@ module _ {S : Type 0} (g : Ghosts S) (before after : Held S) where
   WritesInside table result Becomes = HasCleanDisk new → HasTables old.now
       → OnOk result (ChangesTable table Becomes old.now new.now × InPlace old new)
 
-  -- the database still has a store's tables
-  abbrev pub KeepsTables : {A : Type 0} → Result A Error → Type 0
-  KeepsTables result = HasCleanDisk new → HasTables old.now → OnOk result (HasTables new.now)
-
   -- ---- in a transaction of its own
 
   -- the table's rows become others and are committed

@@ -19,7 +19,8 @@ pub fn newest<S: Alter>(conn: &mut Connection<S>, cust: u32, id: &str) -> Result
     )
 }
 
-/// The same of the newest row of a number that was born in a volume or before, or no row.
+/// `born`, `gone`, `live`, `street`, `hop`, `lang` and `body` of the newest row of a number that
+/// was born in a volume or before, or no row.
 pub fn newest_until<S: Alter>(
     conn: &mut Connection<S>,
     cust: u32,

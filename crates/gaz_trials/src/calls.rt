@@ -21,7 +21,7 @@ pub(crate) fn are_read(rt: &impl Abort, calls: Calls) {
     );
 }
 
-// The same of what is linked, and of what makes it pass.
+// How often the list makes each reading of what is linked, and each call that makes it pass.
 fn are_linked(rt: &impl Abort, calls: Calls) {
     let links = [
         (calls.approved_of, 3),

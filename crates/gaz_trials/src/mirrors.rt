@@ -30,8 +30,8 @@ fn performed<L: Inbox + Drop, U: Unshared + Drop>(
 /// A keeper in memory that counts its calls.
 type Counting = Faulty<MemShelf>;
 
-// The same over two of which the upper one fails at the call of this number, and at none where that
-// is 0: the lower one, and the upper one unless it was dropped.
+// Makes all calls over two of which the upper one fails at the call of this number, and at none
+// where that is 0: the lower one, and the upper one unless it was dropped.
 fn performed_failing(alloc: Global, number: u64) -> Result<(Counting, Option<Counting>), Refusal> {
     let lower = Faulty::new(MemShelf::new(alloc, Seed::of(1)), 0);
     let upper = Faulty::new(MemShelf::new(alloc, Seed::of(2)), number);

@@ -12,7 +12,7 @@ pub(crate) fn counts(rt: &impl Abort, found: u64, wanted: u64) {
     assert_eq!(rt; found, wanted);
 }
 
-/// The same of pairs of what was found and is wanted.
+/// Of each pair the second is wanted, and the first was found.
 pub(crate) fn counts_all(rt: &impl Abort, pairs: &[(u64, u64)]) {
     for (found, wanted) in pairs {
         counts(rt, *found, *wanted);

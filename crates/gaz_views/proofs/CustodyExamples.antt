@@ -1,5 +1,5 @@
 -- What the definitions on custody come to on worked examples.
-use Rattle.std.proofs.Common.{◌≡◌, ◌∙◌, ◌||◌, ℕ, false, true, cond, ap, refl, is_some}
+use Rattle.std.proofs.Common.{◌≡◌, ◌∙◌, ◌||◌, ℕ, false, cond, ap, refl, is_some}
 use Rattle.std.specs.Prelude.{Some, None, Option}
 use Rattle.std.specs.Cmp.{nat_cmp_total}
 use Rattle.std.specs.FinMap as map
@@ -7,15 +7,13 @@ use Rattle.std.specs.FinSet as set
 use Rattle.std.specs.Ordering.{eq_by_cmp, nat_cmp}
 use Rattle.gaz_records.proofs.KeyOrder.{keys_total}
 use Rattle.gaz_records.specs.Keys.{key_cmp}
-use Rattle.gaz_records.specs.declared.item.Item.{Item}
 use Rattle.gaz_records.specs.declared.item.Item.TheVariants as item
 use Rattle.gaz_records.specs.declared.key.Key.{Key}
 use Rattle.gaz_records.specs.declared.key.Key.TheVariants as key
-use Rattle.gaz_views.proofs.Emptiness.{get_none, no_custody, used_none}
+use Rattle.gaz_views.proofs.Emptiness.{no_custody, used_none}
 use Rattle.gaz_views.proofs.Examples.{in_turn}
-use Rattle.gaz_views.specs.Custody.{hop_of, is_holding}
 use Rattle.gaz_views.specs.CustodyExamples.{WorkedCustody, WorkedTies, alone, given_back, given_up, taken}
-use Rattle.gaz_views.specs.View.{custody_at, empty_view, holds, was_used}
+use Rattle.gaz_views.specs.View.{custody_at, empty_view, was_used}
 use Rattle.gaz_views.specs.declared.custody.Custody.{Custody}
 use Rattle.gaz_views.specs.declared.custody.Custody.TheVariants.{Adopted, Released}
 

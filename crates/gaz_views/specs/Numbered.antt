@@ -1,13 +1,13 @@
 -- What stands in a view under a number.
 use Rattle.std.specs.Prelude.{ℕ, Option, Some, None}
-use Rattle.std.specs.Option.{option_and_then}
+use Rattle.std.specs.Option.{option_and_then, option_map_or}
 use Rattle.std.specs.FinMap as map
 use Rattle.gaz_records.specs.Blpus.{BlpuValue}
 use Rattle.gaz_records.specs.Streets.{StreetValue}
 use Rattle.gaz_records.specs.declared.item.Item.{Item}
 use Rattle.gaz_records.specs.declared.item.Item.TheVariants as item
 use Rattle.gaz_records.specs.declared.key.Key.TheVariants as key
-use Rattle.gaz_views.specs.View.{View}
+use Rattle.gaz_views.specs.View.{View, with_adoption}
 
 -- the street, where an item is one
 abbrev pub as_street : Item → Option StreetValue
@@ -26,3 +26,7 @@ street_at v usrn = option_and_then as_street (map.get v.items (key.Street usrn))
 -- the BLPU of this number
 abbrev pub blpu_at : View → ℕ → Option BlpuValue
 blpu_at v uprn = option_and_then as_blpu (map.get v.items (key.Blpu uprn))
+
+-- the item, which is a BLPU, adopted from a custodian at a hop; no other item is adopted
+abbrev pub with_adopted : View → Item → (from hop : ℕ) → View
+with_adopted v i from hop = option_map_or (λ b. with_adoption v b from hop) (as_blpu i) v

@@ -9,7 +9,7 @@ use Rattle.gaz_records.specs.declared.item.Item.{Item}
 use Rattle.gaz_records.specs.declared.item.Item.TheVariants as item
 use Rattle.gaz_records.specs.declared.key.Key.{Key}
 use Rattle.gaz_records.specs.declared.key.Key.TheVariants as key
-use Rattle.gaz_views.specs.Custody.{hop_of, is_holding}
+use Rattle.gaz_views.specs.Custody.{hop_of}
 use Rattle.gaz_views.specs.declared.custody.Custody.{Custody}
 use Rattle.gaz_views.specs.declared.custody.Custody.TheVariants.{Adopted, Released}
 
@@ -52,10 +52,6 @@ was_used v k = set.contains v.used k
 -- what last became of a number, where it was passed on
 abbrev pub custody_at : View → ℕ → Option Custody
 custody_at v uprn = map.get v.custody uprn
-
--- a custodian holds the number in its view, which is or isn't of its own blocks
-abbrev pub holds_number : Bool → View → ℕ → Bool
-holds_number own v uprn = is_holding own (custody_at v uprn)
 
 -- how often the number had passed on when it last passed through the view
 abbrev pub hop_at : View → ℕ → ℕ

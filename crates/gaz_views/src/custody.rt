@@ -1,3 +1,7 @@
+//! What became of a number that passes between custodians.
+ghost use Rattle.std.specs.Prelude.{◌≡◌, ◌≤◌};
+ghost use Rattle.gaz_views.specs.Custody.{hop_in, hop_of};
+
 use gaz_ids::{Code, Hop};
 
 /// What last became of a number in a custodian's gazetteer, where it was passed on (our profile).
@@ -7,4 +11,29 @@ pub enum Custody {
     Released { to: Code, hop: Hop },
     /// The custodian took it from another.
     Adopted { from: Code, hop: Hop },
+}
+
+impl Custody {
+    /// How often the number had passed on by then, this time too: 1 to 9,999.
+    pub fn hop(&self) -> u64
+        ensures value { result ≡ hop_in self.now }
+        ensures range { result ≤ 9999 }
+    {
+        match self {
+            Custody::Released { hop, .. } => hop.number(),
+            Custody::Adopted { hop, .. } => hop.number(),
+        }
+    }
+}
+
+/// How often a number had passed on of which this became last: at most 9,999, and 0 where nothing
+/// did.
+pub fn hop_of(custody: &Option<Custody>) -> u64
+    ensures value { result ≡ hop_of custody.now }
+    ensures range { result ≤ 9999 }
+{
+    match custody {
+        None => 0,
+        Some(last) => last.hop(),
+    }
 }

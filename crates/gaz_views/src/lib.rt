@@ -7,6 +7,6 @@ pub mod laws;
 mod property;
 mod verdict;
 
-pub use custody::Custody;
+pub use custody::{Custody, hop_of};
 pub use property::{Property, share_found};
 pub use verdict::Verdict;

@@ -1,11 +1,9 @@
 -- The command that words name, once they are taken without a fault.
-use Rattle.std.proofs.Common.{◌≡◌, ◌≢◌, ◌∙◌, codes, ◌&&◌, ◌||◌, Bool, true, false, not, cond, List, [], ◌∷◌, Option, Some, None, ap, refl, sym, subst, true≢false, find, option_map, bytes_eq}
-use Rattle.std.specs.Prelude.{option_and_then}
+use Rattle.std.proofs.Common.{◌≡◌, ◌≢◌, ◌∙◌, codes, ◌&&◌, ◌||◌, Bool, true, false, not, cond, List, [], ◌∷◌, Option, Some, None, ap, refl, sym, subst, find, option_map, bytes_eq}
 use Rattle.std.specs.List.{AllByRecursion, list_all, list_any}
 use Rattle.std.specs.Option.{option_map_or}
 use Rattle.std.proofs.lemmas.Slice.Eq.{bytes_eq-Decides}
 use Rattle.clap.specs.Faults.{entered_fault, level_fault, walk_fault}
-use Rattle.clap.specs.Kinds.{or_else}
 use Rattle.clap.specs.Simple.{Shape, entered, label_of, names_of, rows_at}
 use Rattle.clap.specs.Walk.{Row, Text, answers_to, is_empty, nothing_held, rows_after, walk, walk_from}
 use Rattle.clap.specs.Words.{built, fault_of, subcommand_of}

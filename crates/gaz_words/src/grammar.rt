@@ -28,7 +28,10 @@ const EXTEND: &str = "Gives a store a register that grew";
 
 const MIGRATE: &str = "Brings a store of schema 1 up to date";
 
-const INIT_EXAMPLE: &str = "Example: gazhub init --store hub.db --register register.toml";
+const INIT_EXAMPLE: &str = "Example: gazhub init --store hub.db --register register.toml
+
+Prints: ready
+Exit status: 0 made, 2 usage, 3 fault";
 
 const SUBMIT_EXAMPLE: &str =
     "Example: gazhub submit --store hub.db --register register.toml 1001 1 streets.csv
@@ -44,18 +47,30 @@ Exit status: 0 applied, 1 any other of these, 2 usage, 3 fault";
 
 const STATUS_EXAMPLE: &str = "Example: gazhub status --store hub.db --register register.toml 1001
 
-Prints: custodian 1001 judged 2 held 1 wants 1001/3";
+Prints: custodian 1001 judged 2 held 1 wants 1001/3
+  refused 11                      custodian unknown
+Exit status: 0 known, 1 refused, 2 usage, 3 fault";
 
-const LINE_EXAMPLE: &str = "Example: gazhub line --store hub.db --register register.toml 42";
+const LINE_EXAMPLE: &str = "Example: gazhub line --store hub.db --register register.toml 42
+
+Prints: Flat 2, 12A-14 High Street, Arden, AR1 2DN
+  none                            nobody has the property, or it has no approved address
+Exit status: 0 printed, 1 none, 2 usage, 3 fault";
 
 const EXTRACT_EXAMPLE: &str =
-    "Example: gazhub extract --store hub.db --register register.toml 1001 2";
+    "Example: gazhub extract --store hub.db --register register.toml 1001 2
+
+Prints: the extract, in CSV
+  none                            the volume isn't reached
+  refused 11                      custodian unknown (12: no volume)
+Exit status: 0 printed, 1 none or refused, 2 usage, 3 fault";
 
 const SERVE_EXAMPLE: &str =
     "Example: gazhub serve --store hub.db --register register.toml --port 8080 --connections 100
 
 Prints: listening 127.0.0.1:8080
-Answers connections one after the other, and ends behind the last of them.";
+Answers connections one after the other, and ends behind the last of them.
+Exit status: 0 all were answered, 2 usage, 3 fault";
 
 const EXTEND_EXAMPLE: &str =
     "Example: gazhub extend --store hub.db --register register.toml --grown grown.toml
@@ -68,7 +83,7 @@ Exit status: 0 extended, 1 refused, 2 usage, 3 fault";
 const MIGRATE_EXAMPLE: &str = "Example: gazhub migrate --store hub.db --register register.toml
 
 Prints: migrated
-  current                         the store is up to date: nothing is written
+  current                         the store is up to date and stays as it is
 Exit status: 0 migrated or current, 2 usage, 3 fault";
 
 /// The greatest port, and the most connections.

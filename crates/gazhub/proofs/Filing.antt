@@ -6,38 +6,61 @@ use Rattle.sqlite.specs.Held.{Held}
 use Rattle.sqlite_disk.specs.declared.Disk as disk
 use Rattle.sqlite_disk.specs.declared.Files.{Files}
 use Rattle.sqlite_store.specs.declared.store.FileStore.{FileStore}
-use Rattle.gaz_kept.specs.Opening.{Untouched, has_any}
+use Rattle.gaz_tables.specs.Creating.{MayCreate}
+use Rattle.gaz_kept.specs.Opening.{Untouched, has_any, schema_number}
 use Rattle.gaz_kept.specs.declared.refusal.StoreRefusal.{StoreRefusal}
 use Rattle.gaz_kept.specs.declared.refusal.StoreRefusal.TheVariants.{BadSchema, OtherRegister, Fault}
 use Rattle.gaz_register.specs.Registers.{RegisterValue}
+use Rattle.gaz_register.specs.Texts.{register_text}
 use Rattle.gaz_store.specs.Opened.{IsRefused, answer_of}
 use Rattle.gaz_store.specs.declared.store.Store.{Store}
-use Rattle.gaz_stored.specs.Migrating.{LacksBoth, StopsMoving}
-use Rattle.gaz_stored.specs.Using.{LacksStore}
+use Rattle.gaz_stored.specs.Migrating as migrating
+use Rattle.gaz_stored.specs.Migrating.{StopsMoving}
+use Rattle.gaz_stored.specs.Using as stored
 use Rattle.gaz_stored.specs.declared.migrating.Migration.{Migration}
-use Rattle.gazhub.specs.Filing.{Closes, Connects, FindsTables, MakesNone, MigratesNone, OpensNone, OverFiles}
+use Rattle.gazhub.specs.Filing.{Closes, Connects, FindsTables, HasNeither, HasNoNewStore, HasNoStore, MakesNone, MigratesNone, OpensNone, OverFiles}
+
+-- what is told is told for this reason
+why_is : {T : Type 0} {refusal why : StoreRefusal} → ◌≡◌ {A = Result T StoreRefusal} (Err refusal) (Err why) → refusal ≡ why
+why_is is = cc
 
 module _ {D : Type 0} (g : disk.Ghosts D) (files : Files D) (left : Option (Files D)) (conn back : Held (FileStore D g)) (connects : Connects g files conn) (closes : Closes g back left) where
   pub over : (Does : Held (FileStore D g) → Held (FileStore D g) → Type 0) → Does conn back → OverFiles g files left Does
   over Does does = record { conn = conn; after = back; connects = connects; does = does; closes = closes }
 
   module _ (register : RegisterValue) where
-    pub opens_none : {T : Type 0} (held : Result T StoreRefusal) → LacksStore over_files register conn back held → IfErr held (OpensNone g files left register)
+    pub opens_none : {T : Type 0} (held : Result T StoreRefusal) → stored.LacksStore over_files register conn back held → IfErr held (OpensNone g files left register)
     opens_none (Ok told) lacks = tt
-    opens_none (Err refusal) lacks = inr (over _ (lacks.refused, (lacks.rows, lacks.untouched)))
+    opens_none (Err refusal) lacks =
+        let why : HasNoStore g register refusal conn back =
+        record { refused = lacks.refused; lacking = λ none. why_is (lacks.lacking none); rows = lacks.rows; judged = lacks.judged; untouched = lacks.untouched } in
+        inr (over _ why)
 
-    pub migrates_none : (held : Result Migration StoreRefusal) → StopsMoving over_files register conn back → LacksBoth over_files register conn back held → IfErr held (MigratesNone g files left register)
+    pub migrates_none : (held : Result Migration StoreRefusal) → StopsMoving over_files register conn back → migrating.LacksBoth over_files register conn back held → IfErr held (MigratesNone g files left register)
     migrates_none (Ok told) stops lacks = tt
-    migrates_none (Err refusal) stops lacks = inr (over _ (lacks.refused, record { told = lacks.rows; told_first = lacks.rows_first; stops = stops }))
+    migrates_none (Err refusal) stops lacks =
+        let why : HasNeither g register refusal conn back =
+        record {
+          refused = lacks.refused;
+          lacking = λ none none_first. why_is (lacks.lacking none none_first);
+          rows = lacks.rows;
+          judged = lacks.judged;
+          rows_first = lacks.rows_first;
+          judged_first = lacks.judged_first;
+          stops = stops;
+        } in
+        inr (over _ why)
 
   -- why none was made
   module _ (result : Result (Store (FileStore D g) Brand over_files) (Held (FileStore D g) × StoreRefusal)) (refused : IsRefused over_files conn back)
       (named : (answer_of result ≡ Err BadSchema) ↔ IsTrue (has_any (file_state conn).now.schema)) (causes : answer_of result ≢ Err OtherRegister)
       (untouched : IsTrue (has_any (file_state conn).now.schema) → Untouched over_files conn back) where
-    finds_tables : (refusal : StoreRefusal) → result ≡ Err (back, refusal) → FindsTables g files left refusal conn back
+    finds_tables : (refusal : StoreRefusal) → result ≡ Err (back, refusal) → FindsTables g refusal conn back
     finds_tables BadSchema is = let any = named.0 (rw is refl) in inr (refl, any, untouched any)
     finds_tables OtherRegister is = absurd (causes (rw is refl))
     finds_tables Fault is = inl refl
 
-    pub makes_none : (refusal : StoreRefusal) → result ≡ Err (back, refusal) → MakesNone g files left refusal
-    makes_none refusal is = inr (over _ (refused, finds_tables refusal is))
+    pub makes_none : (register : RegisterValue) → MayCreate over_files conn back schema_number (register_text register) → (refusal : StoreRefusal) → result ≡ Err (back, refusal) → MakesNone g files left register refusal
+    makes_none register leaves refusal is =
+        let why : HasNoNewStore g register refusal conn back = record { refused = refused; why = finds_tables refusal is; leaves = leaves } in
+        inr (over _ why)

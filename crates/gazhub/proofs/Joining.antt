@@ -1,9 +1,9 @@
 -- Calls over the same files are one run of one hub.
-use Rattle.std.proofs.Common.{◌≡◌, List, [], ◌∷◌, map, ◌∙◌, Option, Some, ap, refl, subst, sym}
+use Rattle.std.proofs.Common.{◌≡◌, List, [], ◌∷◌, map, ◌∙◌, inl, inr, Option, Some, Err, ap, arith, refl, subst, sym}
 use Rattle.sqlite.specs.Effect.{Database}
 use Rattle.sqlite.specs.Files.{file_state, over_files}
 use Rattle.sqlite.specs.Held.{Held}
-use Rattle.sqlite.specs.State.{HasCleanDisk}
+use Rattle.sqlite.specs.State.{State, HasCleanDisk, Survives}
 use Rattle.sqlite.proofs.Callers.{finds_again}
 use Rattle.sqlite_catalog.proofs.ReadLemmas.{lists_once}
 use Rattle.sqlite_catalog.specs.Listing.{Lists}
@@ -13,16 +13,27 @@ use Rattle.sqlite_store.specs.declared.store.FileStore.{FileStore}
 use Rattle.sqlite_trees.specs.Objects.{catalog_tree}
 use Rattle.sqlite_trees.specs.Tree.{Trees}
 use Rattle.gaz_store.specs.Seen.{IsUnharmed}
+use Rattle.gaz_kept.specs.declared.refusal.StoreRefusal.{StoreRefusal}
+use Rattle.gaz_kept.specs.declared.refusal.StoreRefusal.TheVariants.{Fault}
 use Rattle.gaz_stored.proofs.Calling as calling
 use Rattle.gaz_stored.proofs.Reopening as reopening
 use Rattle.gaz_stored.proofs.Using.{made_alone}
 use Rattle.gaz_stored.specs.Calls as stored
 use Rattle.gaz_stored.specs.Calls.{CutOff, IsFoundAfter, Whole}
-use Rattle.gaz_stored.specs.Reopening.{HasStoreOf}
+use Rattle.gaz_stored.specs.Reopening.{HasStoreOf, OpensOrFails}
 use Rattle.gaz_stored.specs.Runs.{GoesOn}
 use Rattle.gaz_hub.specs.Step.{new_hub}
 use Rattle.gazhub.specs.Filing.{Closes, Connects}
 use Rattle.gazhub.specs.Joined.{CallsAreOne, FileCall, FollowOn, IsGiven, IsPassedOn, NextOpens, call_over, came_over}
+
+-- a disk that is clean after a call was so before
+clean_before : (old new : State) → Survives old new (λ _. ⊥) → HasCleanDisk new → HasCleanDisk old
+clean_before old new survives clean = let le = survives.clean in omega (arith, le, clean)
+
+-- a refusal that is told of a store under its register
+just_a_fault : (refusal : StoreRefusal) → OpensOrFails (Err refusal) → refusal ≡ Fault
+just_a_fault refusal (inl opened) = absurd (let no = opened in cc)
+just_a_fault refusal (inr is) = cc
 
 module _ {D : Type 0} (g : disk.Ghosts D) where
   -- what a connection that was closed held, the next one shows
@@ -68,5 +79,8 @@ module _ {D : Type 0} (g : disk.Ghosts D) where
   }
 
   pub next_opens : NextOpens g
-  next_opens register old conn next files store fine closes connects clean =
-      reopening.opens (over_files {D = D} {g = g}) register conn next (subst (HasStoreOf register) (sym (shown_again old conn files fine closes connects clean)) store)
+  next_opens register old files left refusal store fine closes lacks clean =
+      let before = clean_before (file_state lacks.conn) (file_state lacks.after) lacks.does.untouched.leaves clean in
+      let shows = shown_again old lacks.conn files fine closes lacks.connects before in
+      just_a_fault refusal
+      (reopening.opens (over_files {D = D} {g = g}) register lacks.conn lacks.after (subst (HasStoreOf register) (sym shows) store) (Err refusal) clean lacks.does.judged)

@@ -136,11 +136,15 @@ module _ {S D : Type 0} (done : S → Deed D → S → Type 0) (g : disk.Ghosts 
   EndsAtWords words true ending = EndsPlaying ending
   EndsAtWords words false ending = EndsByMeaning words ending
 
+  -- nothing was asked, since the words or random bytes couldn't be read
+  abbrev pub EndsUnasked : Ending → Type 0
+  EndsUnasked ending = ((ending ≡ ReadFault) × IsUnheard through) × (after ≡ before)
+
   -- how the program ends by its words, none where they can't be read, and by whether the system
   -- gave random bytes
   abbrev pub Ends : Option (List (List ℕ)) → Bool → Ending → Type 0
-  Ends None random ending = ((ending ≡ ReadFault) × IsUnheard through) × (after ≡ before)
-  Ends (Some words) false ending = ((ending ≡ ReadFault) × IsUnheard through) × (after ≡ before)
+  Ends None random ending = EndsUnasked ending
+  Ends (Some words) false ending = EndsUnasked ending
   Ends (Some words) true ending = EndsAtWords words (asks_play words) ending
 
 -- how the program ends, where `clap` may have told of the usage instead

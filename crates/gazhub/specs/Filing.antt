@@ -1,11 +1,13 @@
 -- What is done over a store's two files.
 use Rattle.std.specs.Prelude.{◌≡◌, ◌⊎◌, false, ℕ, List, Option, Some, None, Result, Err, IsTrue}
 use Rattle.std.specs.declared.marker.Brand.{Brand}
-use Rattle.sqlite.specs.Closing.{IsCopied}
-use Rattle.sqlite.specs.Files.{FailsToClose, Finds, IsClosed, IsOpened, file_state, over_files}
+use Rattle.sqlite.specs.Closing.{IsCopied, files_left}
+use Rattle.sqlite.specs.Files.{FailsToClose, Finds, IsCleanLeft, IsClosed, IsOpened, LeavesFiles}
+use Rattle.sqlite.specs.Files.{file_state, over_files}
 use Rattle.sqlite.specs.Held.{Held}
 use Rattle.sqlite.specs.State.{HasCleanDisk, IsLive}
 use Rattle.sqlite.specs.declared.error.Error.{Error}
+use Rattle.sqlite.specs.declared.file.Leftover.{Leftover}
 use Rattle.sqlite_disk.specs.declared.Disk as disk
 use Rattle.sqlite_disk.specs.declared.Files.{Files}
 use Rattle.sqlite_store.specs.FileStore.{view}
@@ -14,8 +16,9 @@ use Rattle.sqlite_trees.specs.View.{IsClean}
 use Rattle.sqlite_wal.specs.Reads.{AreClean}
 use Rattle.gaz_register.specs.Registers.{RegisterValue}
 use Rattle.gaz_register.specs.Texts.{register_text}
-use Rattle.gaz_kept.specs.Opening.{Tells, Untouched, has_any}
-use Rattle.gaz_kept.specs.OpeningFirst.{TellsFirst}
+use Rattle.gaz_tables.specs.Creating.{MayCreate}
+use Rattle.gaz_kept.specs.Opening.{Judges, Tells, Untouched, has_all, has_any, schema_number}
+use Rattle.gaz_kept.specs.OpeningFirst.{JudgesFirst, TellsFirst, has_first}
 use Rattle.gaz_kept.specs.declared.refusal.StoreRefusal.{StoreRefusal}
 use Rattle.gaz_kept.specs.declared.refusal.StoreRefusal.TheVariants.{BadSchema, Fault}
 use Rattle.gaz_store.specs.Opened.{IsMade, IsRefused}
@@ -42,6 +45,17 @@ module _ {D : Type 0} (g : disk.Ghosts D) where
     pub opened : HasCleanDisk (file_state conn) → IsOpened conn
     pub found : HasCleanDisk (file_state conn) → Finds files conn
 
+  -- none could be had, and these files are left: of them a stop leaves only what it could before,
+  -- but where there was no database
+  pub record FailsToConnect (files left : Files D) : Type 0 where
+    pub rest : Leftover D g
+    pub are : (left.log, left.db) ≡ files_left rest
+    pub unharmed : IsCleanLeft rest → LeavesFiles files rest
+
+  abbrev pub IfConnectionFails : Files D → Option (Files D) → Type 0
+  IfConnectionFails files None = ⊥
+  IfConnectionFails files (Some left) = FailsToConnect files left
+
   -- the files that are given back hold its last commit, or closing failed
   abbrev pub CopiesOrFails : Held (FileStore D g) → Option (Files D) → Type 0
   CopiesOrFails conn (Some files) = AreClean g files.log files.db → IsCopied conn files
@@ -55,6 +69,44 @@ module _ {D : Type 0} (g : disk.Ghosts D) where
         → (file_state conn).now ≡ (file_state conn).committed
     pub files : CopiesOrFails conn left
 
+  -- ---- why there is no store, and the connection is handed back over what was there
+
+  -- making one failed; or a table of such a name is there, and nothing is written
+  abbrev pub FindsTables : StoreRefusal → Held (FileStore D g) → Held (FileStore D g) → Type 0
+  FindsTables refusal conn back = (refusal ≡ Fault)
+      ⊎ ((refusal ≡ BadSchema) × IsTrue (has_any (file_state conn).now.schema)
+      × Untouched over_files conn back)
+
+  -- none was made of the register; a stop leaves what was there, or a new store whole
+  pub record HasNoNewStore (register : RegisterValue) (refusal : StoreRefusal)
+      (conn back : Held (FileStore D g)) : Type 0 where
+    pub refused : IsRefused over_files conn back
+    pub why : FindsTables refusal conn back
+    pub leaves : MayCreate over_files conn back schema_number (register_text register)
+
+  -- none of the register is there, and nothing is written: a table or a column is missing, or that
+  -- is told of the row of `meta`
+  pub record HasNoStore (register : RegisterValue) (refusal : StoreRefusal)
+      (conn back : Held (FileStore D g)) : Type 0 where
+    pub refused : IsRefused over_files conn back
+    pub lacking : has_all (file_state conn).now.schema ≡ false → refusal ≡ BadSchema
+    pub rows : Tells over_files conn back (Err refusal) (register_text register)
+    pub judged : Judges over_files conn back (Err refusal) (register_text register)
+    pub untouched : Untouched over_files conn back
+
+  -- none of either schema is there: tables or columns of both are missing, or that is told of the
+  -- row of `meta`
+  pub record HasNeither (register : RegisterValue) (refusal : StoreRefusal)
+      (conn back : Held (FileStore D g)) : Type 0 where
+    pub refused : IsRefused over_files conn back
+    pub lacking : has_all (file_state conn).now.schema ≡ false
+        → has_first (file_state conn).now.schema ≡ false → refusal ≡ BadSchema
+    pub rows : Tells over_files conn back (Err refusal) (register_text register)
+    pub judged : Judges over_files conn back (Err refusal) (register_text register)
+    pub rows_first : TellsFirst over_files conn back (Err refusal) (register_text register)
+    pub judged_first : JudgesFirst over_files conn back (Err refusal) (register_text register)
+    pub stops : StopsMoving over_files register conn back
+
   -- Below, the files are those that are given, and those that are given back.
   module _ (files : Files D) (left : Option (Files D)) where
     -- a connection was had, this was done over it, and it was closed
@@ -66,11 +118,11 @@ module _ {D : Type 0} (g : disk.Ghosts D) where
       pub does : Does conn after
       pub closes : Closes after left
 
-    -- there was no connection, or it was handed back over what was there, for this reason
+    -- no connection was had, which is a fault; or one was handed back for this reason
     abbrev pub Declines : StoreRefusal
         → (Held (FileStore D g) → Held (FileStore D g) → Type 0) → Type 0
-    Declines refusal Why = ((refusal ≡ Fault) × (left ≡ None))
-        ⊎ OverFiles (λ conn back. IsRefused over_files conn back × Why conn back)
+    Declines refusal Why = ((refusal ≡ Fault) × IfConnectionFails files left)
+        ⊎ OverFiles Why
 
     -- ---- a store is made
 
@@ -83,14 +135,8 @@ module _ {D : Type 0} (g : disk.Ghosts D) where
     abbrev pub MakesStore : RegisterValue → Said → Type 0
     MakesStore register answer = (answer ≡ said.Line Ready) × OverFiles (Makes register)
 
-    -- making one failed; or a table of such a name is there, and nothing is written
-    abbrev pub FindsTables : StoreRefusal → Held (FileStore D g) → Held (FileStore D g) → Type 0
-    FindsTables refusal conn back = (refusal ≡ Fault)
-        ⊎ ((refusal ≡ BadSchema) × IsTrue (has_any (file_state conn).now.schema)
-        × Untouched over_files conn back)
-
-    abbrev pub MakesNone : StoreRefusal → Type 0
-    MakesNone refusal = Declines refusal (FindsTables refusal)
+    abbrev pub MakesNone : RegisterValue → StoreRefusal → Type 0
+    MakesNone register refusal = Declines refusal (HasNoNewStore register refusal)
 
     -- ---- the store that is there is used, by a hub of the register
 
@@ -112,11 +158,9 @@ module _ {D : Type 0} (g : disk.Ghosts D) where
     ExtendsStore register grown told =
         OverFiles (λ conn after. ExtendsOpened over_files register grown conn after told)
 
-    -- there is none of the register: that is told of the row of `meta`, and nothing is written
+    -- there is none of the register
     abbrev pub OpensNone : RegisterValue → StoreRefusal → Type 0
-    OpensNone register refusal = Declines refusal
-        (λ conn back. Tells over_files conn back (Err refusal) (register_text register)
-        × Untouched over_files conn back)
+    OpensNone register refusal = Declines refusal (HasNoStore register refusal)
 
     -- ---- it is migrated
 
@@ -129,12 +173,6 @@ module _ {D : Type 0} (g : disk.Ghosts D) where
     abbrev pub MigratesStore : RegisterValue → Migration → Type 0
     MigratesStore register told = OverFiles (MigratesOver register told)
 
-    -- there is none of either schema: that is told of the row of `meta`
-    pub record Refuses (register : RegisterValue) (refusal : StoreRefusal)
-        (conn back : Held (FileStore D g)) : Type 0 where
-      pub told : Tells over_files conn back (Err refusal) (register_text register)
-      pub told_first : TellsFirst over_files conn back (Err refusal) (register_text register)
-      pub stops : StopsMoving over_files register conn back
-
+    -- there is none of either schema
     abbrev pub MigratesNone : RegisterValue → StoreRefusal → Type 0
-    MigratesNone register refusal = Declines refusal (Refuses register refusal)
+    MigratesNone register refusal = Declines refusal (HasNeither register refusal)

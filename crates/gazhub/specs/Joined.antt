@@ -11,6 +11,8 @@ use Rattle.sqlite_store.specs.declared.store.FileStore.{FileStore}
 use Rattle.sqlite_trees.specs.declared.store.Store.{Ghosts}
 use Rattle.gaz_register.specs.Registers.{IsRegister, RegisterValue}
 use Rattle.gaz_tables.specs.Creating.{HasRoom}
+use Rattle.gaz_kept.specs.declared.refusal.StoreRefusal.{StoreRefusal}
+use Rattle.gaz_kept.specs.declared.refusal.StoreRefusal.TheVariants.{Fault}
 use Rattle.gaz_store.specs.Opened.{IsRefused}
 use Rattle.gaz_store.specs.Seen.{IsUnharmed}
 use Rattle.gaz_store.specs.declared.growing.ExtendFault.{ExtendFault}
@@ -19,12 +21,12 @@ use Rattle.gaz_commands.specs.declared.said.Said.{Said}
 use Rattle.gaz_stored.specs.Calls.{AreOneRun, Call, CameTo, CutOff, Grew, IsFoundAfter, Moved}
 use Rattle.gaz_stored.specs.Calls.{Refused, Used, Whole}
 use Rattle.gaz_stored.specs.Meetings.{Meeting}
-use Rattle.gaz_stored.specs.Reopening.{HasStoreOf, OpensThen}
+use Rattle.gaz_stored.specs.Reopening.{HasStoreOf}
 use Rattle.gaz_stored.specs.Runs.{GoesOn, IsStoreOf}
 use Rattle.gaz_stored.specs.declared.attending.Unserved.{Unserved}
 use Rattle.gaz_stored.specs.declared.migrating.Migration.{Migration}
-use Rattle.gazhub.specs.Filing.{AsksStore, Closes, Connects, ExtendsStore, Makes, MigratesStore}
-use Rattle.gazhub.specs.Filing.{OverFiles, ServesStore}
+use Rattle.gazhub.specs.Filing.{AsksStore, Closes, ExtendsStore, HasNoStore, Makes}
+use Rattle.gazhub.specs.Filing.{MigratesStore, OverFiles, ServesStore}
 
 module _ {D : Type 0} (g : disk.Ghosts D) where
   -- how a database in files is shown
@@ -113,6 +115,8 @@ module _ {D : Type 0} (g : disk.Ghosts D) where
   abbrev pub AreOne : RegisterValue → Database → List FileCall → Type 0
   AreOne register db calls = AreOneRun shown register db (map call_over calls)
 
+  -- calls over the same files are one run, from a store that is there or behind one that was made
+  -- or migrated
   pub record CallsAreOne : Type 0 where
     -- over the store that the first of them finds
     pub opened : (register : RegisterValue) (first : FileCall) (later : List FileCall)
@@ -131,9 +135,11 @@ module _ {D : Type 0} (g : disk.Ghosts D) where
         → Makes g files left register conn after → HasRoom (file_state conn).now.schema
         → HasCleanDisk (file_state after) → GoesOn register new_hub [] [] (file_state after).now
 
-  -- whoever opens the files that were given back of a store under its register is told Ok or Fault
+  -- a call under the register of a store, over the files that were given back of it, tells that
+  -- there is none just for a fault
   abbrev pub NextOpens : Type 0
-  NextOpens = (register : RegisterValue) (old conn next : Held (FileStore D g)) (files : Files D)
+  NextOpens = (register : RegisterValue) (old : Held (FileStore D g)) (files : Files D)
+      (left : Option (Files D)) (refusal : StoreRefusal)
       → HasStoreOf register (file_state old).now → IsUnharmed (file_state old)
-      → Closes g old (Some files) → Connects g files conn → HasCleanDisk (file_state conn)
-      → OpensThen over_files register conn next
+      → Closes g old (Some files) → (over : OverFiles g files left (HasNoStore g register refusal))
+      → HasCleanDisk (file_state over.after) → refusal ≡ Fault

@@ -38,6 +38,6 @@ pub record Plays (text : List ℕ) (most : ℕ) (through : Transfer) (ended : Re
   pub abides : Abides (door_of register) uses.commands uses.responses hub
   -- and each answer is read off the standing board of the files that were received by then
   pub answers : AllAnswered (door_of register) map.empty uses.commands uses.responses hub.received
-  -- so it is of what the tables stand for in the end, unless a want of memory shut the database
+  -- so it is of what the tables stand for in the end, where the database is still open
   pub tables : IsTrue (file_state after).is_open → Abides (door_of register) uses.commands
       uses.responses (hub_in (file_state after).now)

@@ -28,10 +28,11 @@ pub data Deed (D : Type 0) : Type 0 where
   Listened : (port : ℕ) (had : Option ℕ) → Deed D
   Met : (met : Meeting) → Deed D
 
--- what was read, and the files that were opened
+-- the bytes that were read
 abbrev pub bytes_of : Option (Vec ℕ) → Option (List ℕ)
 bytes_of = option_map (λ bytes. bytes.items)
 
+-- the files that were opened
 abbrev pub files_of : {D O : Type 0} → Option (Files D × O) → Option (Files D)
 files_of = option_map (λ found. found.0)
 

@@ -32,7 +32,8 @@ module _ {S D : Type 0} (done : S → Deed D → S → Type 0) (g : disk.Ghosts 
   -- a store of the register was made
   abbrev pub MakesIn : RegisterValue → Files D → S → S → Result Said NoHub → Type 0
   MakesIn register files =
-      DoneIn (λ left. MakesStore g files left register) (MakesNone g files) of_store
+      DoneIn (λ left. MakesStore g files left register)
+      (λ left. MakesNone g files left register) of_store
 
   -- its register was to grow
   abbrev pub GrowsIn : RegisterValue → RegisterValue → Files D → S → S → Result Said NoHub → Type 0
@@ -53,12 +54,13 @@ module _ {S D : Type 0} (done : S → Deed D → S → Type 0) (g : disk.Ghosts 
     pub asks : DoneIn (λ left. AsksStore g files left register (asked call bytes))
         (λ left. OpensNone g files left register) of_store between after told
 
-  -- the register and then the store are looked for at the places that the words name, and one of
-  -- these is done
+  -- the register and then the store are looked for at the places that the words name, to make
+  -- a store
   abbrev pub InitComesTo : Places → S → S → Result Said NoHub → Type 0
   InitComesTo places = WithRegister done places.register.now (λ register.
       WithFiles done places.store.now purpose.Make (MakesIn register))
 
+  -- they are looked for there, and a hub over the store is asked
   abbrev pub AskComesTo : Places → Call → S → S → Result Said NoHub → Type 0
   AskComesTo places call = WithRegister done places.register.now (λ register.
       WithFiles done places.store.now purpose.Use (AsksIn call register))
@@ -69,6 +71,7 @@ module _ {S D : Type 0} (done : S → Deed D → S → Type 0) (g : disk.Ghosts 
       WithRegister done path (λ grown.
       WithFiles done places.store.now purpose.Use (GrowsIn register grown)))
 
+  -- they are looked for there, and the store is migrated
   abbrev pub MigrateComesTo : Places → S → S → Result Said NoHub → Type 0
   MigrateComesTo places = WithRegister done places.register.now (λ register.
       WithFiles done places.store.now purpose.Migrate (MigratesIn register))

@@ -36,8 +36,9 @@ pub fn extend_store<D: Disk + Drop>(
     ensures extends { IfOk result.1 (ExtendsStore D.Disk files result.0 register grown) }
     ensures none { IfErr result.1 (OpensNone D.Disk files result.0 register) }
 {
-    let Some(conn) = connect(alloc, files, options) else {
-        return (None, Err(StoreRefusal::Fault));
+    let conn = match connect(alloc, files, options) {
+        Ok(conn) => conn,
+        Err(left) => return (Some(left), Err(StoreRefusal::Fault)),
     };
     let (conn, told) = extend_opened(alloc, seed, conn, register, grown);
     let left = close(conn);

@@ -13,21 +13,24 @@ use std::net::{Ipv4Addr, TcpListener, TcpStream};
 use std::random::RandomSource;
 
 /// The bytes of a page of a store's file.
-const PAGE: u64 = 4096;
+const PAGE_BYTES: u64 = 4096;
 
-/// The fewest pages that are kept at hand, and the most: 256 MB.
-const FEWEST: u64 = 2_000;
+/// The fewest pages that are kept at hand.
+const FEWEST_PAGES: u64 = 2_000;
 
-const MOST: u64 = 64_000;
+/// The most pages that are kept at hand: 256 MB.
+const MOST_PAGES: u64 = 64_000;
 
 /// So many bytes of a store's file take about a second to open, since it is read through.
-const A_SECOND: u64 = 20_000_000;
+const BYTES_A_SECOND: u64 = 20_000_000;
 
 // The pages that are kept at hand: all of a file of so many bytes and half as many more, where they
 // aren't too many.
 fn pages_for(bytes: u64) -> usize {
-    let pages = bytes / PAGE;
-    pages.saturating_add(pages / 2).clamp(FEWEST, MOST) as usize
+    let pages = bytes / PAGE_BYTES;
+    pages
+        .saturating_add(pages / 2)
+        .clamp(FEWEST_PAGES, MOST_PAGES) as usize
 }
 
 /// A number that nobody foresees, for a seed or for the salts of a store's log.
@@ -46,6 +49,7 @@ pub struct Host<'a> {
 }
 
 impl<'a> Host<'a> {
+    /// The system, listening at no port.
     pub fn of(rt: &'a HostRuntime) -> Host<'a> {
         Host { rt, listener: None }
     }
@@ -74,7 +78,7 @@ impl<'a> Host<'a> {
     // Says what is being done with a store's file of so many bytes, where that takes over a second
     // and a person waits: standard error is a terminal. What can't be said is lost.
     fn announce(&self, bytes: u64, what: &str) {
-        if bytes > A_SECOND && self.rt.stderr().is_terminal() {
+        if bytes > BYTES_A_SECOND && self.rt.stderr().is_terminal() {
             let _lost = eprintln!(self.rt; "{what}");
         }
     }

@@ -32,8 +32,9 @@ pub fn migrate_store<D: Disk + Drop>(
     ensures migrates { IfOk result.1 (MigratesStore D.Disk files result.0 register.now) }
     ensures none { IfErr result.1 (MigratesNone D.Disk files result.0 register.now) }
 {
-    let Some(conn) = connect(alloc, files, options) else {
-        return (None, Err(StoreRefusal::Fault));
+    let conn = match connect(alloc, files, options) {
+        Ok(conn) => conn,
+        Err(left) => return (Some(left), Err(StoreRefusal::Fault)),
     };
     let (conn, told) = migrate_opened(alloc, seed, conn, register);
     let left = close(conn);

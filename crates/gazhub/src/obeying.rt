@@ -12,7 +12,7 @@ use crate::ending::Ending;
 use crate::files::NoHub;
 use crate::growing::extend;
 use crate::migrating::migrate;
-use crate::program::{MOST, play};
+use crate::program::{MOST_OF_PLAY, play};
 use crate::sample::SAMPLE;
 use crate::site::Site;
 use clap::Error;
@@ -86,7 +86,7 @@ fn obey<S: Site, R: Read, W: Write>(
     r: &mut R,
     w: &mut W,
 ) -> Ending
-    ensures { EndsAt S.done S.Medium.Disk SAMPLE.now MOST site.old site.new
+    ensures { EndsAt S.done S.Medium.Disk SAMPLE.now MOST_OF_PLAY site.old site.new
         (transfer R.remaining W.contents r.old r.new w.old w.new) command.entry result }
 {
     match command {
@@ -108,7 +108,7 @@ fn follow<S: Site, R: Read, W: Write>(
     r: &mut R,
     w: &mut W,
 ) -> Result<Ending, Error>
-    ensures { EndsByMeaning S.done S.Medium.Disk SAMPLE.now MOST site.old site.new
+    ensures { EndsByMeaning S.done S.Medium.Disk SAMPLE.now MOST_OF_PLAY site.old site.new
         (transfer R.remaining W.contents r.old r.new w.old w.new)
         (map string_bytes words.now) (ending_of result) }
 {
@@ -127,7 +127,7 @@ fn begin<S: Site, R: Read, W: Write>(
     r: &mut R,
     w: &mut W,
 ) -> Result<Ending, Error>
-    ensures { Ends S.done S.Medium.Disk SAMPLE.now MOST site.old site.new
+    ensures { Ends S.done S.Medium.Disk SAMPLE.now MOST_OF_PLAY site.old site.new
         (transfer R.remaining W.contents r.old r.new w.old w.new)
         (option_map (λ all. map string_bytes all.now) words.entry) (is_some seed)
         (ending_of result) }
@@ -169,7 +169,7 @@ pub fn command<S: Site, R: Read, W: Write, E: Write>(
     w: &mut W,
     errors: &mut E,
 ) -> u8
-    ensures { Commands S.done S.Medium.Disk SAMPLE.now MOST
+    ensures { Commands S.done S.Medium.Disk SAMPLE.now MOST_OF_PLAY
         (option_map (λ all. map string_bytes all.now) words.entry) (is_some seed)
         site.old site.new (transfer R.remaining W.contents r.old r.new w.old w.new)
         (E.contents errors.old) (E.contents errors.new) result }

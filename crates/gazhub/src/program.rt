@@ -20,7 +20,7 @@ use std::marker::Brand;
 use std::mem::forget;
 
 /// The most requests of one run.
-pub const MOST: u64 = 100_000;
+pub const MOST_OF_PLAY: u64 = 100_000;
 
 // The sample register, where there is memory for it.
 fn sample_register(alloc: Global) -> Option<Register>
@@ -64,7 +64,7 @@ pub fn answer_all<R: Source, W: Sink>(
     r: &mut R,
     w: &mut W,
 ) -> Option<Result<Served, Stopped>>
-    ensures plays { IfSome result (Plays SAMPLE.now MOST
+    ensures plays { IfSome result (Plays SAMPLE.now MOST_OF_PLAY
         (transfer R.remaining W.contents r.old r.new w.old w.new)) }
     ensures failed { IfSome result (StopsByFault R.failed W.failed r.new w.new) }
     ensures unheard { result ≡ None → IsUnheard
@@ -80,7 +80,7 @@ pub fn answer_all<R: Source, W: Sink>(
         conn,
         at_hand,
         told,
-    } = converse_opened(alloc, seed, conn, register, r, w, MOST);
+    } = converse_opened(alloc, seed, conn, register, r, w, MOST_OF_PLAY);
     // The program ends, and the system takes back at once what would take longer to free piece by
     // piece.
     forget(conn);
@@ -93,7 +93,7 @@ pub fn answer_all<R: Source, W: Sink>(
 
 /// Holds a conversation.
 pub fn play<R: Source, W: Sink>(alloc: Global, seed: Seed, r: &mut R, w: &mut W) -> Ending
-    ensures { Holds SAMPLE.now MOST
+    ensures { Holds SAMPLE.now MOST_OF_PLAY
         (transfer R.remaining W.contents r.old r.new w.old w.new) result }
 {
     match answer_all(alloc, seed, r, w) {

@@ -1,10 +1,11 @@
 //! Commands over a store's two files, whatever disk they are on.
-ghost use Rattle.std.specs.Prelude.{◌≡◌, ◌≤◌, false, IfErr, IfOk, IfSome, IsTrue, option_map};
+ghost use Rattle.std.specs.Prelude.{◌≡◌, false, IfErr, IfOk, IfSome, IsTrue, option_map};
 ghost use Rattle.gaz_stored.specs.Asking.{asked};
 ghost use Rattle.gaz_stored.specs.Attending.{IsAnnounced};
 ghost use Rattle.gaz_stored.specs.Meetings.{WithPeers};
-ghost use Rattle.gazhub.specs.Filing.{AsksStore, Closes, Connects, MakesNone, MakesStore};
-ghost use Rattle.gazhub.specs.Filing.{OpensNone, ServesStore};
+ghost use Rattle.gazhub.specs.Filing.{AsksStore, Closes, Connects, FailsToConnect, MakesNone};
+ghost use Rattle.gazhub.specs.Filing.{MakesStore, OpensNone, ServesStore};
+ghost use Rattle.gazhub.specs.Serving.{AreSome};
 
 use gaz_commands::{PrintedLine, Said};
 use gaz_ledger::Seed;
@@ -19,19 +20,20 @@ use std::io::Write;
 use std::marker::Brand;
 use std::mem::forget;
 
-/// A connection to the database in the files, where one can be had.
+/// A connection to the database in the files; or what is left of them, where none can be had.
 pub(crate) fn connect<D: Disk + Drop>(
     alloc: Global,
     files: Files<D>,
     options: Options,
-) -> Option<Connection<FileStore<D>>>
+) -> Result<Connection<FileStore<D>>, Files<D>>
     requires log { IsTrue (D.Disk.is_usable files.log) }
     requires db { IsTrue (D.Disk.is_usable files.db) }
-    ensures { IfSome result (Connects D.Disk files) }
+    ensures had { IfOk result (Connects D.Disk files) }
+    ensures none { IfErr result (FailsToConnect D.Disk files) }
 {
     match Connection::open_files(alloc, files, options) {
-        Ok(conn) => Some(conn),
-        Err(_) => None,
+        Ok(conn) => Ok(conn),
+        Err((_, rest)) => Err(rest.into_files()),
     }
 }
 
@@ -67,10 +69,11 @@ pub fn make_store<D: Disk + Drop>(
     requires log { IsTrue (D.Disk.is_usable files.log) }
     requires db { IsTrue (D.Disk.is_usable files.db) }
     ensures made { IfOk result.1 (MakesStore D.Disk files result.0 register.now) }
-    ensures none { IfErr result.1 (MakesNone D.Disk files result.0) }
+    ensures none { IfErr result.1 (MakesNone D.Disk files result.0 register.now) }
 {
-    let Some(conn) = connect(alloc, files, options) else {
-        return (None, Err(StoreRefusal::Fault));
+    let conn = match connect(alloc, files, options) {
+        Ok(conn) => conn,
+        Err(left) => return (Some(left), Err(StoreRefusal::Fault)),
     };
     match Store::<_, Brand>::create(alloc, seed, conn, register) {
         Ok(store) => {
@@ -102,8 +105,9 @@ pub fn ask_store<D: Disk + Drop>(
         (asked call.entry (option_map (λ bytes. bytes.now) file.entry))) }
     ensures none { IfErr result.1 (OpensNone D.Disk files result.0 register) }
 {
-    let Some(conn) = connect(alloc, files, options) else {
-        return (None, Err(StoreRefusal::Fault));
+    let conn = match connect(alloc, files, options) {
+        Ok(conn) => conn,
+        Err(left) => return (Some(left), Err(StoreRefusal::Fault)),
     };
     let (conn, told) = ask_opened(alloc, seed, conn, register, call, file);
     let left = close(conn);
@@ -134,13 +138,13 @@ pub fn serve_store<D: Disk + Drop, P: Peers, W: Write>(
         WithPeers P.meets P.Reader.Source.failed P.Writer.Sink.failed
         (ServesStore D.Disk files result.0 register MOST_REQUESTS held) peers.old peers.new) }
     ensures nobody { IfErr result.1 (λ _. peers.new ≡ peers.old) }
-    ensures many { IfOk result.1 (λ served.
-        IfOk served (λ n. (n ≤ connections) × (1 ≤ connections → 1 ≤ n))) }
+    ensures many { IfOk result.1 (λ served. IfOk served (AreSome connections)) }
     ensures none { IfErr result.1 (OpensNone D.Disk files result.0 register) }
     ensures announced { IsAnnounced port (W.contents w.old) (W.contents w.new) result.1 }
 {
-    let Some(conn) = connect(alloc, files, options) else {
-        return (None, Err(StoreRefusal::Fault));
+    let conn = match connect(alloc, files, options) {
+        Ok(conn) => conn,
+        Err(left) => return (Some(left), Err(StoreRefusal::Fault)),
     };
     let HandedBack {
         conn,

@@ -22,7 +22,8 @@ pub(crate) fn is_row(
     }
 }
 
-/// The same of a BLPU and of its address.
+/// The BLPU and its address are there, and these rows are written of them, or none are where none
+/// are given.
 pub(crate) fn is_property(
     alloc: Global,
     found: Option<Property>,

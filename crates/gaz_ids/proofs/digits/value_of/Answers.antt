@@ -1,5 +1,4 @@
-use Rattle.std.proofs.Common.{arith, get_or, drop, true, ◌≡◌, ◌-◌, ◌+◌, ◌*◌}
-use Rattle.std.specs.Char.{is_ascii_digit}
+use Rattle.std.proofs.Common.{arith, get_or, drop, ◌-◌, ◌+◌, ◌*◌}
 use Rattle.gaz_ids.proofs.Numerals.{digit_at, number_step, grows, short_value}
 use Rattle.gaz_ids.proofs.digits.value_of.Goals as goal
 

@@ -1,7 +1,6 @@
 -- One page after another, until there is none.
 use Rattle.std.proofs.Common.{◌≡◌, ◌∙◌, ◌++◌, ℕ, List, [], ap, refl, subst, sym}
 use Rattle.std.specs.Prelude.{None, Some}
-use Rattle.gaz_keeper.specs.Board.{reached}
 use Rattle.gaz_overlay.specs.Passages.{PassageRow}
 use Rattle.gaz_shelf.specs.Mem.{content_in}
 use Rattle.gaz_loaded.specs.Passing.{AreToldBehind, AreToldInTurn}

@@ -1,4 +1,4 @@
-use Rattle.std.proofs.Common.{◌≡◌, ◌∙◌, ℕ, IfOk, List, Option, ap, option_map, subst}
+use Rattle.std.proofs.Common.{◌≡◌, ℕ, IfOk, List, Option, ap, option_map, subst}
 use Rattle.gaz_keeper.proofs.Pairs.{there_now}
 use Rattle.gaz_keeper.specs.Keeper.{Content}
 use Rattle.gaz_mirror.proofs.laws.receive_and_find.Goals as goal

@@ -1,10 +1,6 @@
-use Rattle.std.proofs.Common.{◌≡◌, ◌∙◌, ℕ, List, [], ◌∷◌, Bool, true, false, sym, ap, rules, inl, inr, refl, Some}
-use Rattle.std.specs.Bool.{MatchBool}
-use Rattle.std.specs.Option.{option_map_or}
+use Rattle.std.proofs.Common.{◌∙◌, inl, inr}
 use Rattle.std.proofs.lemmas.Bool.{cases_Bool}
 use Rattle.csv.specs.Records.{fields_of}
-use Rattle.gaz_rows.specs.Rows.{Fields}
-use Rattle.gaz_rows.specs.Reader.{IsOpen, left_at, left_of}
 use Rattle.gaz_rows.proofs.Left.{left-read, left-end}
 use Rattle.gaz_rows.proofs.reader.read_next.Goals as goal
 

@@ -1,4 +1,4 @@
-use Rattle.std.proofs.Common.{◌≡◌, ◌∙◌, List, sym, ap, true, false}
+use Rattle.std.proofs.Common.{sym, ap}
 use Rattle.gaz_rows.specs.Rows.{rows_of, only}
 use Rattle.gaz_rows.proofs.Back.{one-only, two-only}
 use Rattle.gaz_rows.proofs.row.read_row.Goals as goal

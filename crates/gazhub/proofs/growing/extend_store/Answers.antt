@@ -1,3 +1,4 @@
+use Rattle.std.proofs.Common.{inl, refl}
 use Rattle.std.proofs.lemmas.Result.{IfOk-weaker}
 use Rattle.gazhub.proofs.Filing.{opens_none, over}
 use Rattle.gazhub.proofs.growing.extend_store.Goals as goal
@@ -5,9 +6,12 @@ use Rattle.gazhub.proofs.growing.extend_store.Goals as goal
 pub returns-clause-extends : goal.returns-clause-extends
 returns-clause-extends g c =
     let grew = c.extend_opened-conn in
-    IfOk-weaker grew.result.1 _ _ (λ told extends. over _ c.args.files c.close-left.result c.in-Some.conn grew.result.0 c.in-Some.ensures c.close-left.ensures _ extends) grew.ensures.extends
+    IfOk-weaker grew.result.1 _ _ (λ told extends. over _ c.args.files c.close-left.result c.in-Ok.conn grew.result.0 c.in-Ok.ensures.had c.close-left.ensures _ extends) grew.ensures.extends
 
 pub returns-clause-none : goal.returns-clause-none
 returns-clause-none g c =
     let grew = c.extend_opened-conn in
-    opens_none _ c.args.files c.close-left.result c.in-Some.conn grew.result.0 c.in-Some.ensures c.close-left.ensures c.args.register grew.result.1 grew.ensures.lacks
+    opens_none _ c.args.files c.close-left.result c.in-Ok.conn grew.result.0 c.in-Ok.ensures.had c.close-left.ensures c.args.register grew.result.1 grew.ensures.lacks
+
+pub returns-in-Err-clause-none : goal.returns-in-Err-clause-none
+returns-in-Err-clause-none g c = inl (refl, c.in-Err.ensures.none)

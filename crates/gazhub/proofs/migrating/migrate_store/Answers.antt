@@ -1,3 +1,4 @@
+use Rattle.std.proofs.Common.{inl, refl}
 use Rattle.std.proofs.lemmas.Result.{IfOk-weaker}
 use Rattle.gazhub.proofs.Filing.{migrates_none, over}
 use Rattle.gazhub.proofs.migrating.migrate_store.Goals as goal
@@ -5,9 +6,12 @@ use Rattle.gazhub.proofs.migrating.migrate_store.Goals as goal
 pub returns-clause-migrates : goal.returns-clause-migrates
 returns-clause-migrates g c =
     let moved = c.migrate_opened-conn in
-    IfOk-weaker moved.result.1 _ _ (λ told migrates. over _ c.args.files c.close-left.result c.in-Some.conn moved.result.0 c.in-Some.ensures c.close-left.ensures _ (record { migrates = migrates; stops = moved.ensures.stops })) moved.ensures.migrates
+    IfOk-weaker moved.result.1 _ _ (λ told migrates. over _ c.args.files c.close-left.result c.in-Ok.conn moved.result.0 c.in-Ok.ensures.had c.close-left.ensures _ (record { migrates = migrates; stops = moved.ensures.stops })) moved.ensures.migrates
 
 pub returns-clause-none : goal.returns-clause-none
 returns-clause-none g c =
     let moved = c.migrate_opened-conn in
-    migrates_none _ c.args.files c.close-left.result c.in-Some.conn moved.result.0 c.in-Some.ensures c.close-left.ensures c.args.register.now moved.result.1 moved.ensures.stops moved.ensures.lacks
+    migrates_none _ c.args.files c.close-left.result c.in-Ok.conn moved.result.0 c.in-Ok.ensures.had c.close-left.ensures c.args.register.now moved.result.1 moved.ensures.stops moved.ensures.lacks
+
+pub returns-in-Err-clause-none : goal.returns-in-Err-clause-none
+returns-in-Err-clause-none g c = inl (refl, c.in-Err.ensures.none)

@@ -1,4 +1,4 @@
-use Rattle.std.proofs.Common.{◌≡◌, ◌∙◌, ap, subst, sym, true}
+use Rattle.std.proofs.Common.{◌∙◌, ap, subst, sym}
 use Rattle.gaz_overlay.specs.Changes.{is_touched}
 use Rattle.gaz_records.specs.Keys.{key_of}
 use Rattle.gaz_views.specs.View.{with_item}
