@@ -15,12 +15,13 @@ use Rattle.sqlite_trees.specs.Tree.{Trees}
 use Rattle.gaz_store.specs.Seen.{IsUnharmed}
 use Rattle.gaz_kept.specs.declared.refusal.StoreRefusal.{StoreRefusal}
 use Rattle.gaz_kept.specs.declared.refusal.StoreRefusal.TheVariants.{Fault}
+use Rattle.gaz_register.specs.Registers.{RegisterValue}
 use Rattle.gaz_stored.proofs.Calling as calling
 use Rattle.gaz_stored.proofs.Reopening as reopening
 use Rattle.gaz_stored.proofs.Using.{made_alone}
 use Rattle.gaz_stored.specs.Calls as stored
 use Rattle.gaz_stored.specs.Calls.{CutOff, IsFoundAfter, Whole}
-use Rattle.gaz_stored.specs.Reopening.{HasStoreOf, OpensOrFails}
+use Rattle.gaz_stored.specs.Reopening.{HasStoreOf, OpensOrFails, OpensThen}
 use Rattle.gaz_stored.specs.Runs.{GoesOn}
 use Rattle.gaz_hub.specs.Step.{new_hub}
 use Rattle.gazhub.specs.Filing.{Closes, Connects}
@@ -78,9 +79,17 @@ module _ {D : Type 0} (g : disk.Ghosts D) where
         subst (λ k. GoesOn register new_hub [] [] (file_state k).now) makes.back alone;
   }
 
+  opens : (register : RegisterValue) (old conn next : Held (FileStore D g)) (files : Files D) → HasStoreOf register (file_state old).now → IsUnharmed (file_state old) → Closes g old (Some files) → Connects g files conn → HasCleanDisk (file_state conn)
+      → OpensThen (over_files {D = D} {g = g}) register conn next
+  opens register old conn next files store fine closes connects clean =
+      reopening.opens (over_files {D = D} {g = g}) register conn next (subst (HasStoreOf register) (sym (shown_again old conn files fine closes connects clean)) store)
+
   pub next_opens : NextOpens g
-  next_opens register old files left refusal store fine closes lacks clean =
-      let before = clean_before (file_state lacks.conn) (file_state lacks.after) lacks.does.untouched.leaves clean in
-      let shows = shown_again old lacks.conn files fine closes lacks.connects before in
-      just_a_fault refusal
-      (reopening.opens (over_files {D = D} {g = g}) register lacks.conn lacks.after (subst (HasStoreOf register) (sym shows) store) (Err refusal) clean lacks.does.judged)
+  next_opens = record {
+    opens = opens;
+    lacks = λ register old files left refusal store fine closes over clean.
+        let before = clean_before (file_state over.conn) (file_state over.after) over.does.untouched.leaves clean in
+        just_a_fault refusal (opens register old over.conn over.after files store fine closes over.connects before (Err refusal) clean over.does.judged);
+    migrates = λ register old files left refusal store fine closes over before clean.
+        just_a_fault refusal (opens register old over.conn over.after files store fine closes over.connects before (Err refusal) clean over.does.judged);
+  }

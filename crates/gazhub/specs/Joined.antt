@@ -21,12 +21,12 @@ use Rattle.gaz_commands.specs.declared.said.Said.{Said}
 use Rattle.gaz_stored.specs.Calls.{AreOneRun, Call, CameTo, CutOff, Grew, IsFoundAfter, Moved}
 use Rattle.gaz_stored.specs.Calls.{Refused, Used, Whole}
 use Rattle.gaz_stored.specs.Meetings.{Meeting}
-use Rattle.gaz_stored.specs.Reopening.{HasStoreOf}
+use Rattle.gaz_stored.specs.Reopening.{HasStoreOf, OpensThen}
 use Rattle.gaz_stored.specs.Runs.{GoesOn, IsStoreOf}
 use Rattle.gaz_stored.specs.declared.attending.Unserved.{Unserved}
 use Rattle.gaz_stored.specs.declared.migrating.Migration.{Migration}
-use Rattle.gazhub.specs.Filing.{AsksStore, Closes, ExtendsStore, HasNoStore, Makes}
-use Rattle.gazhub.specs.Filing.{MigratesStore, OverFiles, ServesStore}
+use Rattle.gazhub.specs.Filing.{AsksStore, Closes, Connects, ExtendsStore, HasNeither, HasNoStore}
+use Rattle.gazhub.specs.Filing.{Makes, MigratesStore, OverFiles, ServesStore}
 
 module _ {D : Type 0} (g : disk.Ghosts D) where
   -- how a database in files is shown
@@ -135,11 +135,25 @@ module _ {D : Type 0} (g : disk.Ghosts D) where
         → Makes g files left register conn after → HasRoom (file_state conn).now.schema
         → HasCleanDisk (file_state after) → GoesOn register new_hub [] [] (file_state after).now
 
-  -- a call under the register of a store, over the files that were given back of it, tells that
-  -- there is none just for a fault
-  abbrev pub NextOpens : Type 0
-  NextOpens = (register : RegisterValue) (old : Held (FileStore D g)) (files : Files D)
-      (left : Option (Files D)) (refusal : StoreRefusal)
-      → HasStoreOf register (file_state old).now → IsUnharmed (file_state old)
-      → Closes g old (Some files) → (over : OverFiles g files left (HasNoStore g register refusal))
-      → HasCleanDisk (file_state over.after) → refusal ≡ Fault
+  -- over the files that were given back of a store, under its register
+  pub record NextOpens : Type 0 where
+    -- whoever opens them is told Ok or Fault
+    pub opens : (register : RegisterValue) (old conn next : Held (FileStore D g)) (files : Files D)
+        → HasStoreOf register (file_state old).now → IsUnharmed (file_state old)
+        → Closes g old (Some files) → Connects g files conn → HasCleanDisk (file_state conn)
+        → OpensThen over_files register conn next
+    -- a call tells that there is none just for a fault
+    pub lacks : (register : RegisterValue) (old : Held (FileStore D g)) (files : Files D)
+        (left : Option (Files D)) (refusal : StoreRefusal)
+        → HasStoreOf register (file_state old).now → IsUnharmed (file_state old)
+        → Closes g old (Some files)
+        → (over : OverFiles g files left (HasNoStore g register refusal))
+        → HasCleanDisk (file_state over.after) → refusal ≡ Fault
+    -- and so does a migration
+    pub migrates : (register : RegisterValue) (old : Held (FileStore D g)) (files : Files D)
+        (left : Option (Files D)) (refusal : StoreRefusal)
+        → HasStoreOf register (file_state old).now → IsUnharmed (file_state old)
+        → Closes g old (Some files)
+        → (over : OverFiles g files left (HasNeither g register refusal))
+        → HasCleanDisk (file_state over.conn) → HasCleanDisk (file_state over.after)
+        → refusal ≡ Fault

@@ -7,7 +7,7 @@ use Rattle.sqlite_disk.specs.declared.Files.{Files}
 use Rattle.gaz_store.specs.Opened.{IsRefused}
 use Rattle.gaz_store.specs.Seen.{IsUnharmed}
 use Rattle.gaz_stored.specs.Calls.{Whole}
-use Rattle.gazhub.specs.Filing.{OverFiles}
+use Rattle.gazhub.specs.Filing.{FailsToConnect, IfConnectionFails, OverFiles}
 use Rattle.gazhub.specs.Joined.{Declined, FileCall, FollowOn, IsGiven}
 
 module _ {D : Type 0} (g : disk.Ghosts D) where
@@ -29,5 +29,8 @@ module _ {D : Type 0} (g : disk.Ghosts D) where
     pub twice : (files : Files D) (over : OverFiles g files (Some files) (IsRefused over_files))
         (fine : IsUnharmed (file_state over.after)) → HasCleanDisk (file_state over.conn)
         → FollowOn g (in_vain files over fine) (in_vain files over fine ∷ [])
+    -- what is left as it was where no connection could be had, and nothing given back
+    pub left_alone : (files : Files D) → FailsToConnect g files files
+    pub kept_back : (files : Files D) → ¬ IfConnectionFails g files None
     -- no files were given back
     pub lost : (call : FileCall g) → ¬ IsGiven g call None
