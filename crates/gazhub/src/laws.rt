@@ -19,8 +19,8 @@ pub fn calls_are_one<D: Disk>()
 {}
 
 /// Whoever opens the files that were given back of a store, under its register, is told `Ok` or
-/// `Fault`, and never that there is no store, or one of another register; and so it is of what a call
-/// or a migration over them tells.
+/// `Fault`, and never that there is no store, or one of another register; and so it is of what a
+/// call or a migration over them tells.
 pub fn next_opens<D: Disk>()
     ensures { NextOpens D.Disk }
 {}
