@@ -1,7 +1,7 @@
 """What a command waits for before it answers: `gazhub status` over stores in files, and the first answer of `gazhub serve` over the same.
 
 Beside them the library's reading of the file alone (`gaz_bench floor` without a statement), a plain hub over Python's `sqlite3` that is asked the same, and the keeper in memory,
-which takes the files anew. Sizes are of rows. A store of 1,000,000 rows takes long to make, so it is measured by a word of its own.
+which takes the files anew. Sizes are of rows. A store of 1,000,000 rows takes long to make, so it is measured by a word of its own. And `status` under a register of 400 custodians.
 
     bench/rows_opening.py [ROWS..]   only stores of so many rows, and what filling takes where none is named
 """
@@ -13,8 +13,8 @@ import time
 from contextlib import closing
 
 import streams
-from measure import ROUNDS, blocked_peak, in_file, least_seconds, medians, program, seconds
-from sides import IN_MEMORY, Place, over_sqlite, pages_for
+from measure import ROUNDS, blocked_peak, in_file, least_seconds, medians, program, register_of, seconds
+from sides import IN_MEMORY, SAMPLE, Place, over_sqlite, pages_for
 
 SIZES = (60_000, 600_000)
 MILLION = (1_000_000,)
@@ -89,9 +89,17 @@ def sized_rows(folder, counts):
         yield from opening_rows(Place(folder), count)
 
 
+def custodians_row(folder):
+    """A command looks at each custodian of its register: at 400 of whom none sent a file, beside the few of the sample."""
+    asked = [(place.words("status", place.new(), code), os.devnull) for place, code in ((Place(folder, register_of(400)), 400), (Place(folder), CODE))]
+    many, few = medians([[seconds(*it)[0] for it in asked] for _ in range(ROUNDS)])
+    return "`status` of one of 400 custodians without a file", f"{many:.2f} s", f"{few:.3f} s of one of the {SAMPLE.count('[[custodian]]')} of the sample"
+
+
 def rows(folder):
     yield from sized_rows(folder, SIZES)
     yield from filling_rows(Place(folder))
+    yield custodians_row(folder)
 
 
 def million_rows(folder):

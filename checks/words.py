@@ -42,7 +42,8 @@ def usage(words: str, begins: str) -> Told:
 
 def helps(command: str, does: str, statuses: str) -> Told:
     """The help of a command: what it does, and the exit statuses that it names."""
-    return Told(f"help {command}", f"{does}\n\nUsage: gazhub {command} --", 0, shows=f"\nExit status: {statuses}\n")
+    usage = f"gazhub {command}\n" if command == "play" else f"gazhub {command} --"
+    return Told(f"help {command}", f"{does}\n\nUsage: {usage}", 0, shows=f"\nExit status: {statuses}\n")
 
 
 TOLD = (
@@ -70,6 +71,7 @@ TOLD = (
         0,
         shows="\nExample: gazhub submit --store hub.db --register register.toml 1001 1 streets.csv\n",
     ),
+    helps("play", "Answers HTTP requests on standard input, over a store in memory [default]", "0 all were answered, 2 usage, 3 fault"),
     helps("init", "Makes a store", "0 made, 2 usage, 3 fault"),
     helps("status", "Says how far a custodian's files are judged", "0 known, 1 refused, 2 usage, 3 fault"),
     helps("line", "Prints the address line of a property", "0 printed, 1 none, 2 usage, 3 fault"),

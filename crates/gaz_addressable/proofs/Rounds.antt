@@ -1,12 +1,13 @@
 -- What an object writes reads back.
 use Rattle.std.proofs.Common.{◌≡◌, ℕ, List, [], Bool, true, false, ◌≤◌, arith, refl, Ok, Some, None, ◌∙◌}
 use Rattle.std.specs.Prelude.{◌&&◌, nat_le, decimal, Option}
+use Rattle.std.specs.Option.{unwrap_or}
 use Rattle.std.proofs.lemmas.Bool.Decides.{nat_tests}
 use Rattle.std.proofs.lemmas.Fmt.{decimal_nonempty}
 use Rattle.gaz_ids.proofs.Numerals.{read_decimal}
 use Rattle.gaz_addressable.specs.Texts.{is_plain, char_count}
 use Rattle.gaz_addressable.specs.HouseNumbers.{HouseNumberValue, RangeValue, house_of, is_before, is_before_end, is_house_number, is_number_or_none, is_suffix, suffix_of, suffix_text}
-use Rattle.gaz_addressable.specs.Objects.{ObjectValue, digits_text, from_of, is_object, is_range_or_none, is_text_or_none, is_there, letter_text, object_of_fields, or_empty, range_of, texts_of, to_of, with_text}
+use Rattle.gaz_addressable.specs.Objects.{ObjectValue, digits_text, from_of, is_object, is_range_or_none, is_text_or_none, is_there, letter_text, object_of_fields, range_of, texts_of, to_of, with_text}
 use Rattle.gaz_addressable.proofs.Characters.{plain_some}
 use Rattle.gaz_addressable.proofs.Reading.{object_of-read}
 
@@ -64,7 +65,7 @@ range_back : (r : Option RangeValue) → is_range_or_none r ≡ true
 range_back None h = none_back
 range_back (Some r) h = with_end r.from r.to (and-left _ _ (and-left _ _ h)) (and-right _ _ (and-left _ _ h)) (and-right _ _ h)
 
-text_back : (r : Option RangeValue) (t : Option (List ℕ)) → is_there r t ≡ true → is_text_or_none 90 t ≡ true → with_text r (or_empty t) ≡ Ok (record { range = r; text = t })
+text_back : (r : Option RangeValue) (t : Option (List ℕ)) → is_there r t ≡ true → is_text_or_none 90 t ≡ true → with_text r (unwrap_or t []) ≡ Ok (record { range = r; text = t })
 text_back None None there text = cc there
 text_back (Some r) None there text = refl
 text_back r (Some t) there text =
@@ -76,4 +77,4 @@ text_back r (Some t) there text =
 pub object_back : (o : ObjectValue) → is_object o ≡ true → object_of_fields (texts_of o) ≡ Ok o
 object_back o h =
     let parts = and-left _ _ h in
-    object_of-read _ _ _ _ (or_empty o.text) o.range (range_back o.range (and-right _ _ parts)) ∙ text_back o.range o.text (and-left _ _ parts) (and-right _ _ h)
+    object_of-read _ _ _ _ (unwrap_or o.text []) o.range (range_back o.range (and-right _ _ parts)) ∙ text_back o.range o.text (and-left _ _ parts) (and-right _ _ h)

@@ -1,7 +1,8 @@
 -- House numbers, their order, and how they are read and written.
 use Rattle.std.specs.Prelude.{◌≡◌, ℕ, ◌==◌, ◌&&◌, nat_le, List, [], ◌∷◌, ◌++◌, length, slice_index}
-use Rattle.std.specs.Prelude.{Option, Some, None, option_map, Result, Ok, Err, if◌then◌else◌, Bool}
+use Rattle.std.specs.Prelude.{Option, Some, None, option_map, if◌then◌else◌, Bool}
 use Rattle.std.specs.Prelude.{true, decimal}
+use Rattle.std.specs.Result.{result_ok}
 use Rattle.std.specs.Ordering.{is_lt, nat_cmp, ordering_then}
 use Rattle.std.specs.declared.cmp.Ordering.{Ordering}
 use Rattle.std.specs.declared.cmp.Ordering.TheVariants.{Less, Equal, Greater}
@@ -60,18 +61,13 @@ is_range r = is_house_number r.from && is_number_or_none r.to && rises r
 
 -- ---- reading
 
--- the value of a reading that went well
-abbrev pub ok_of : {A E : Type 0} → Result A E → Option A
-ok_of (Ok x) = Some x
-ok_of (Err e) = None
-
 -- a field that may be left empty: none where it has another form
 abbrev pub optional : {A : Type 0} → (List ℕ → Option A) → List ℕ → Option (Option A)
 optional read t = if length t == 0 then Some None else option_map Some (read t)
 
 -- up to four digits that say 1 to 9999
 abbrev pub house_of : List ℕ → Option (Option ℕ)
-house_of t = optional (λ digits. ok_of (read_id 4 1 9999 digits)) t
+house_of t = optional (λ digits. result_ok (read_id 4 1 9999 digits)) t
 
 -- one letter from A to Z
 abbrev pub letter_in : List ℕ → Option ℕ

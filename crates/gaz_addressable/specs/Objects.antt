@@ -2,6 +2,7 @@
 use Rattle.std.specs.Prelude.{◌≡◌, ◌⊎◌, ℕ, ◌==◌, ◌&&◌, ◌||◌, not, nat_lt, List, [], ◌∷◌, ◌++◌}
 use Rattle.std.specs.Prelude.{length, get_or, Option, Some, None, is_some, is_none, Result, Ok, Err}
 use Rattle.std.specs.Prelude.{if◌then◌else◌, Bool, true, decimal}
+use Rattle.std.specs.Option.{option_flatten, unwrap_or}
 use Rattle.gaz_addressable.specs.Texts.{is_plain, char_count, is_text}
 use Rattle.gaz_addressable.specs.HouseNumbers.{HouseNumberValue, RangeValue, house_of, is_range}
 use Rattle.gaz_addressable.specs.HouseNumbers.{rises, suffix_of, suffix_text}
@@ -33,11 +34,6 @@ is_object o = is_there o.range o.text && is_range_or_none o.range && is_text_or_
 abbrev pub is_empty : List ℕ → Bool
 is_empty t = length t == 0
 
--- what a field that has its form says
-abbrev pub flattened : {A : Type 0} → Option (Option A) → Option A
-flattened None = None
-flattened (Some x) = x
-
 abbrev pub numbered : Option ℕ → Option ℕ → Option HouseNumberValue
 numbered None suffix = None
 numbered (Some n) suffix = Some (record { n = n; suffix = suffix })
@@ -50,8 +46,8 @@ range_from (Some from) to = Some (record { from = from; to = to })
 abbrev pub range_value : (start suffix end end_suffix : List ℕ) → Option RangeValue
 range_value start suffix end end_suffix =
     range_from
-    (numbered (flattened (house_of start)) (flattened (suffix_of suffix)))
-    (numbered (flattened (house_of end)) (flattened (suffix_of end_suffix)))
+    (numbered (option_flatten (house_of start)) (option_flatten (suffix_of suffix)))
+    (numbered (option_flatten (house_of end)) (option_flatten (suffix_of end_suffix)))
 
 abbrev pub rises_if_there : Option RangeValue → Bool
 rises_if_there None = true
@@ -71,14 +67,14 @@ range_faults start suffix end end_suffix =
     ∷ (not (rises_if_there (range_value start suffix end end_suffix)), fault.EndNotAfterStart)
     ∷ []
 
--- and with that of the text
+-- what may be wrong with the field of the text, in the order in which it is told
 abbrev pub text_faults : List ℕ → List (Bool × ObjFault)
 text_faults text =
     (not (is_empty text) && not (is_plain text), fault.BadText)
     ∷ (not (is_empty text) && nat_lt 90 (char_count text), fault.TextTooLong)
     ∷ []
 
--- and with all five
+-- what may be wrong with the five fields of an object, in the order in which it is told
 abbrev pub object_faults : (start suffix end end_suffix text : List ℕ) → List (Bool × ObjFault)
 object_faults start suffix end end_suffix text = (
   is_empty start && is_empty suffix && is_empty end && is_empty end_suffix && is_empty text,
@@ -144,16 +140,12 @@ abbrev pub letter_text : Option HouseNumberValue → List ℕ
 letter_text None = []
 letter_text (Some x) = suffix_text x.suffix
 
-abbrev pub or_empty : Option (List ℕ) → List ℕ
-or_empty None = []
-or_empty (Some t) = t
-
 -- start number, start suffix, end number, end suffix, text
 abbrev pub texts_of : ObjectValue → List (List ℕ)
 texts_of o =
     digits_text (from_of o.range) ∷ letter_text (from_of o.range)
     ∷ digits_text (to_of o.range) ∷ letter_text (to_of o.range)
-    ∷ or_empty o.text ∷ []
+    ∷ unwrap_or o.text [] ∷ []
 
 -- what an object writes reads back as the same object
 abbrev pub ObjectsReadBack : Type 0

@@ -1,6 +1,7 @@
-ghost use Rattle.std.specs.Prelude.{◌≡◌, IfOk, Ok, map, true};
+ghost use Rattle.std.specs.Prelude.{◌≡◌, [], IfOk, Ok, map, true};
+ghost use Rattle.std.specs.Option.{unwrap_or};
 ghost use Rattle.gaz_addressable.specs.Objects.{digits_text, from_of, is_object, letter_text};
-ghost use Rattle.gaz_addressable.specs.Objects.{object_of_fields, or_empty, texts_of, to_of};
+ghost use Rattle.gaz_addressable.specs.Objects.{object_of_fields, texts_of, to_of};
 
 use crate::number::HouseNumber;
 use crate::object::Object;
@@ -32,7 +33,7 @@ fn letter(alloc: Global, number: Option<HouseNumber>) -> Result<Vec<u8>, AllocEr
 }
 
 fn text_bytes(alloc: Global, text: &Option<Text<90>>) -> Result<Vec<u8>, AllocError>
-    ensures { IfOk result (λ t. t.items ≡ or_empty text.now) }
+    ensures { IfOk result (λ t. t.items ≡ unwrap_or text.now []) }
 {
     match text {
         Some(text) => Vec::from_slice(alloc, text.as_bytes()),

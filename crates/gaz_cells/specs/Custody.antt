@@ -53,7 +53,7 @@ custody_by live other hop =
     if live == 0 then Some (Released other hop)
     else if live == 1 then Some (Adopted other hop) else None
 
--- the same, where there are a code and a hop
+-- what became of a number, where there are a code and a hop
 abbrev pub custody_told : ℕ → Option ℕ → Option ℕ → Option Custody
 custody_told live None hop = None
 custody_told live (Some other) None = None

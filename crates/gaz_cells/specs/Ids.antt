@@ -1,11 +1,11 @@
 -- The texts by which tables name the keys of a kind.
 use Rattle.std.specs.Prelude.{ℕ, ◌==◌, Bool, List, ◌++◌, length, take, drop}
 use Rattle.std.specs.Prelude.{Option, Some, None, option_map, if◌then◌else◌}
+use Rattle.std.specs.Result.{result_ok}
 use Rattle.gaz_ids.specs.Codes.{lang_of, lang_text}
 use Rattle.gaz_ids.specs.Numbers.{read_id}
 use Rattle.gaz_ids.specs.declared.lang.Lang.{Lang}
 use Rattle.gaz_records.specs.Blpus.{is_uprn}
-use Rattle.gaz_records.specs.Fields.{ok_of}
 use Rattle.gaz_records.specs.Labels.{is_label, label_of}
 use Rattle.gaz_records.specs.Streets.{is_usrn}
 use Rattle.gaz_records.specs.declared.item.Kind.{Kind}
@@ -43,7 +43,7 @@ is_key (key.Lpi t) = is_label 14 t
 -- the number, where the text is just so many digits and it is in range
 abbrev pub number_in_full : ℕ → ℕ → List ℕ → Option ℕ
 number_in_full width high text =
-    if length text == width then ok_of (read_id width 1 high text) else None
+    if length text == width then result_ok (read_id width 1 high text) else None
 
 abbrev pub usrn_in : List ℕ → Option ℕ
 usrn_in text = number_in_full 8 99_999_999 text

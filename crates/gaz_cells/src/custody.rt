@@ -1,10 +1,11 @@
 //! The columns of what became of a number.
 ghost use Rattle.std.specs.Prelude.{◌≡◌, IfOk};
-ghost use Rattle.gaz_cells.specs.Custody.{custody_cells};
+ghost use Rattle.gaz_ids.specs.Numbers.{of_id};
+ghost use Rattle.gaz_cells.specs.Custody.{custody_by, custody_cells, custody_told};
 
 use crate::cells::{Cells, Links};
 use crate::id::id_of;
-use gaz_ids::Uprn;
+use gaz_ids::{Code, Hop, Uprn};
 use gaz_records::Key;
 use gaz_views::Custody;
 use std::alloc::{AllocError, Global};
@@ -28,6 +29,30 @@ impl Model for CustodyCells {
     ghost Value = { CustodyValue };
 
     ghost view = { λ x. record { cells = x.cells; hop = x.hop } };
+}
+
+// Taken or given up, by `live`.
+fn custody_by(live: u64, other: Code, hop: Hop) -> Option<Custody>
+    ensures { result ≡ custody_by live other hop }
+{
+    if live == 0 {
+        Some(Custody::Released { to: other, hop })
+    } else if live == 1 {
+        Some(Custody::Adopted { from: other, hop })
+    } else {
+        None
+    }
+}
+
+/// What became of a number, of what stands in columns: 0 where it was given up or 1 where it was
+/// taken, the other custodian's code, and how often it had passed on, both 1 to 9,999. None where
+/// they are no such numbers.
+pub fn custody_told(live: u64, other: u64, hop: u64) -> Option<Custody>
+    ensures { result ≡ custody_told live (of_id 1 9999 other) (of_id 1 9999 hop) }
+{
+    let other = Code::of(other)?;
+    let hop = Hop::of(hop)?;
+    custody_by(live, other, hop)
 }
 
 // The numbers by which it is looked for, and whether the number was taken.

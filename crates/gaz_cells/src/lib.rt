@@ -12,7 +12,7 @@ mod reading;
 
 pub use bodies::Bodies;
 pub use cells::{Cells, Links, links_of};
-pub use custody::CustodyCells;
+pub use custody::{CustodyCells, custody_told};
 pub use fault::CellFault;
 pub use id::{id_of, key_named};
 pub use reading::{Row, kind_numbered};

@@ -3,7 +3,7 @@ use Rattle.std.proofs.Common.{◌≡◌, ◌≢◌, ◌⊎◌, ℕ, zero, suc, �
 use Rattle.std.specs.Prelude.{◌==◌, ◌&&◌, not, nat_le, nat_lt, slice_index, codes}
 use Rattle.std.specs.List.{All, last_or, list_any, range_with_len}
 use Rattle.std.specs.List.Sorted.{IsStrictlyIncreasing}
-use Rattle.std.specs.Option.{option_and_then, option_map}
+use Rattle.std.specs.Option.{option_and_then, option_map, option_to_list}
 use Rattle.std.proofs.Math.Seq.{get_or-append_seam}
 use Rattle.std.proofs.lemmas.Bool.Decides.{nat_tests}
 use Rattle.std.proofs.lemmas.List.{append-nil, get_or_append_left, map-append}
@@ -22,7 +22,6 @@ use Rattle.gaz_changefile.specs.Laws.{AreKept, BasesRise, ChangesAreAllowed, Cha
 use Rattle.gaz_changefile.specs.Lines.{action_of, field, is_basis, is_basis_line, is_change, is_change_line, is_trailer, is_trailer_line, is_value, line_of, profile_named, read_code, read_order, read_volume}
 use Rattle.gaz_changefile.specs.Reading.{Good, reading}
 use Rattle.gaz_changefile.specs.Rules.{basis_rules, before_of, change_rules, custodian_at, first_broken, header_rules, is_above, is_allowed_if_read, is_header, is_miscounted, is_next_basis, later_rules, line_rules, rules_at}
-use Rattle.gaz_changefile.specs.Steps.{listed}
 use Rattle.gaz_changefile.specs.declared.action.Action.{Action}
 use Rattle.gaz_changefile.specs.declared.change.Basis.{Basis}
 use Rattle.gaz_changefile.specs.declared.change.Change.{Change}
@@ -123,20 +122,20 @@ record Built (c p : ℕ) (before : List Fields) : Type 0 where
 -- one record more
 build : (c p : ℕ) (before : List Fields) (row : Fields) (l : Line) (ob : Option Basis) (oc : Option Change) → line_of p row ≡ l → basis_of row l ≡ ob
     → change_of (length before + 1) row l ≡ oc → Built c p before → list_any (is_trailer p) before ≡ false
-    → length (listed ob) ≡ cond (is_basis_line l) 1 0 → length (listed oc) ≡ cond (is_change_line l) 1 0
-    → AreBases c (bases_in p before ++ listed ob) → ArePlaced (bases_in p before ++ listed ob) (changes_in p before ++ listed oc)
-    → AreAllowed c (listed oc) → (is_trailer_line l ≡ false → length (listed ob) + length (listed oc) ≡ 1)
-    → (is_trailer_line l ≡ false → changes_in p before ++ listed oc ≡ [] → option_map (λ b. b.custodian) ob ≡ last_or None (map (λ b. b.custodian) (bases_in p before ++ listed ob)))
+    → length (option_to_list ob) ≡ cond (is_basis_line l) 1 0 → length (option_to_list oc) ≡ cond (is_change_line l) 1 0
+    → AreBases c (bases_in p before ++ option_to_list ob) → ArePlaced (bases_in p before ++ option_to_list ob) (changes_in p before ++ option_to_list oc)
+    → AreAllowed c (option_to_list oc) → (is_trailer_line l ≡ false → length (option_to_list ob) + length (option_to_list oc) ≡ 1)
+    → (is_trailer_line l ≡ false → changes_in p before ++ option_to_list oc ≡ [] → option_map (λ b. b.custodian) ob ≡ last_or None (map (λ b. b.custodian) (bases_in p before ++ option_to_list ob)))
     → Built c p (before ++ (row ∷ []))
 build c p before row l ob oc e b x k fresh one_b one_x bases placed allowed one last =
-    let eb : bases_in p (before ++ (row ∷ [])) ≡ bases_in p before ++ listed ob = bases_push p before row ∙ ap (λ (o : Option Basis). bases_in p before ++ listed o) (ap (basis_of row) e ∙ b) in
-    let ex : changes_in p (before ++ (row ∷ [])) ≡ changes_in p before ++ listed oc =
-    changes_push p before row (length before + 1) refl ∙ ap (λ (o : Option Change). changes_in p before ++ listed o) (ap (change_of (length before + 1) row) e ∙ x) in
+    let eb : bases_in p (before ++ (row ∷ [])) ≡ bases_in p before ++ option_to_list ob = bases_push p before row ∙ ap (λ (o : Option Basis). bases_in p before ++ option_to_list o) (ap (basis_of row) e ∙ b) in
+    let ex : changes_in p (before ++ (row ∷ [])) ≡ changes_in p before ++ option_to_list oc =
+    changes_push p before row (length before + 1) refl ∙ ap (λ (o : Option Change). changes_in p before ++ option_to_list o) (ap (change_of (length before + 1) row) e ∙ x) in
     let et : list_any (is_trailer p) (before ++ (row ∷ [])) ≡ is_trailer_line l = any_push (is_trailer p) before row fresh ∙ ap is_trailer_line e in
     let ec : option_and_then (custodian_at p) (last_or None (before ++ (row ∷ []))) ≡ option_map (λ b. b.custodian) ob =
     ap (option_and_then (custodian_at p)) (last_push None before row) ∙ ap (option_map (λ (b : Basis). b.custodian)) (ap (basis_of row) e ∙ b) in
-    let nb = length-append (bases_in p before) (listed ob) in
-    let nx = length-append (changes_in p before) (listed oc) in
+    let nb = length-append (bases_in p before) (option_to_list ob) in
+    let nx = length-append (changes_in p before) (option_to_list oc) in
     let cb : count_by (is_basis p) (before ++ (row ∷ [])) ≡ count_by (is_basis p) before + cond (is_basis_line l) 1 0 =
     count_push (is_basis p) before row ∙ ap (λ (l : Line). count_by (is_basis p) before + cond (is_basis_line l) 1 0) e in
     let cx : count_by (is_change p) (before ++ (row ∷ [])) ≡ count_by (is_change p) before + cond (is_change_line l) 1 0 =
@@ -146,7 +145,7 @@ build c p before row l ob oc e b x k fresh one_b one_x bases placed allowed one 
       count = ap length ex ∙ nx ∙ omega (arith, k.count, one_x, cx);
       bases = rw eb bases;
       changes = rw (eb, ex) placed;
-      allowed = rw ex (All-append (λ x. is_allowed c x ≡ true) (changes_in p before) (listed oc) k.allowed allowed);
+      allowed = rw ex (All-append (λ x. is_allowed c x ≡ true) (changes_in p before) (option_to_list oc) k.allowed allowed);
       len = λ t. rw (eb, ex, nb, nx, length-append before (row ∷ [])) (omega (arith, k.len fresh, one (sym et ∙ t)));
       last = λ t none. ec ∙ rw eb (last (sym et ∙ t) (sym ex ∙ none));
     }

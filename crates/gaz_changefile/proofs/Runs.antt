@@ -6,7 +6,7 @@ use Rattle.std.proofs.lemmas.List.Elements.{filter_map-append}
 use Rattle.std.proofs.lemmas.List.Sums.{sum_by-append}
 use Rattle.std.proofs.lemmas.Str.{IsUtf8-from_is_utf8, is_utf8-from_IsUtf8}
 use Rattle.std.specs.List.{enumerate_from, filter_map, last_or, list_any, range_with_len}
-use Rattle.std.specs.Option.{option_and_then}
+use Rattle.std.specs.Option.{option_and_then, option_to_list}
 use Rattle.std.specs.Str.{IsUtf8, is_utf8}
 use Rattle.gaz_rows.specs.Rows.{Fields, rows_of}
 use Rattle.gaz_changefile.specs.Contents.{Contents, bases_in, basis_at, change_at, changes_in, contents_of, date_in}
@@ -14,7 +14,7 @@ use Rattle.gaz_changefile.specs.Lines.{is_basis, is_change, is_trailer, line_of,
 use Rattle.gaz_changefile.specs.Reading.{Bad, Good, by_faults, fault_at, faults, reading}
 use Rattle.gaz_changefile.specs.Rules.{before_of, custodian_at, first_broken, header_rules, later_rules, rules_at}
 use Rattle.gaz_changefile.specs.Fault.{IsFault}
-use Rattle.gaz_changefile.specs.Steps.{Adds, IsFirstOf, ReadsOn, before_in, listed}
+use Rattle.gaz_changefile.specs.Steps.{Adds, IsFirstOf, ReadsOn, before_in}
 use Rattle.gaz_changefile.specs.declared.change.Basis.{Basis}
 use Rattle.gaz_changefile.specs.declared.draft.FileDraft.{FileDraft}
 use Rattle.gaz_changefile.specs.declared.file.FileFault.{FileFault}
@@ -119,14 +119,14 @@ any_push p (y ∷ ys) x e = rw (or_none (p y) (list_any p ys) e) (any_push p ys 
     or_rest false b h = h
     or_rest true b h = cc h
 
-one_listed : {A : Type 0} (o : Option A) → filter_map {X = ℕ} (λ _. o) (0 ∷ []) ≡ listed o
+one_listed : {A : Type 0} (o : Option A) → filter_map {X = ℕ} (λ _. o) (0 ∷ []) ≡ option_to_list o
 one_listed None = refl
 one_listed (Some x) = refl
 
-cons_listed : (p place : ℕ) (row : Fields) → filter_map (change_at p) ((place, row) ∷ []) ≡ listed (change_at p (place, row))
+cons_listed : (p place : ℕ) (row : Fields) → filter_map (change_at p) ((place, row) ∷ []) ≡ option_to_list (change_at p (place, row))
 cons_listed p place row = one_listed (change_at p (place, row))
 
-pub bases_push : (p : ℕ) (rows : List Fields) (row : Fields) → bases_in p (rows ++ (row ∷ [])) ≡ bases_in p rows ++ listed (basis_at p row)
+pub bases_push : (p : ℕ) (rows : List Fields) (row : Fields) → bases_in p (rows ++ (row ∷ [])) ≡ bases_in p rows ++ option_to_list (basis_at p row)
 bases_push p rows row = rw (filter_map-append (basis_at p) rows (row ∷ [])) (ap (λ (l : List Basis). bases_in p rows ++ l) (one_listed (basis_at p row)))
 
 pub enumerate_push : {X : Type 0} (n : ℕ) (xs : List X) (x : X) → enumerate_from n (xs ++ (x ∷ [])) ≡ enumerate_from n xs ++ ((n + length xs, x) ∷ [])
@@ -134,7 +134,7 @@ enumerate_push n [] x = let e : n + 0 ≡ n = omega arith in rw e refl
 enumerate_push n (y ∷ ys) x = let e : n + suc (length ys) ≡ (n + 1) + length ys = omega arith in rw (e, enumerate_push (n + 1) ys x) refl
 
 pub changes_push : (p : ℕ) (rows : List Fields) (row : Fields) (place : ℕ) → place ≡ length rows + 1
-    → changes_in p (rows ++ (row ∷ [])) ≡ changes_in p rows ++ listed (change_at p (place, row))
+    → changes_in p (rows ++ (row ∷ [])) ≡ changes_in p rows ++ option_to_list (change_at p (place, row))
 changes_push p rows row place e =
     let n : 1 + length rows ≡ place = omega arith in
     rw (enumerate_push 1 rows row, n, filter_map-append (change_at p) (enumerate_from 1 rows) ((place, row) ∷ []), cons_listed p place row) refl

@@ -1,6 +1,7 @@
 -- The texts of items' fields are UTF-8.
 use Rattle.std.proofs.Common.{◌≡◌, ℕ, ◌^◌, ◌<◌, ◌≤◌, true, List, [], ◌∷◌, ◌++◌, length, refl, arith, Option, Some, None, lit<}
 use Rattle.std.specs.Prelude.{IsUtf8, ◌&&◌, nat_le, decimal}
+use Rattle.std.specs.Option.{unwrap_or}
 use Rattle.std.specs.Str.{IsAscii, chars, is_utf8}
 use Rattle.std.proofs.Math.Utf8.{encode}
 use Rattle.std.proofs.lemmas.Bool.Decides.{nat_tests}
@@ -21,7 +22,6 @@ use Rattle.gaz_records.specs.Adopts.{adopt_texts, is_adopt}
 use Rattle.gaz_records.specs.Blpus.{BlpuValue, blpu_texts, is_blpu, is_parent, parent_text}
 use Rattle.gaz_records.specs.Days.{CivilDay, are_days, date_text, end_text, is_day, two}
 use Rattle.gaz_records.specs.Descriptors.{DescriptorValue, descriptor_texts, is_descriptor}
-use Rattle.gaz_records.specs.Fields.{or_empty}
 use Rattle.gaz_records.specs.Items.{is_item, item_texts}
 use Rattle.gaz_records.specs.Labels.{are_label_bytes, is_label, is_label_byte}
 use Rattle.gaz_records.specs.Lpis.{LpiValue, is_lpi, is_secondary, lpi_texts, secondary_texts}
@@ -76,7 +76,7 @@ label_utf8 most t h = IsUtf8-from_ascii t (label_ascii t (and-right (nat_le 1 (l
 text_utf8 : (most : ℕ) (t : List ℕ) → is_text most t ≡ true → IsUtf8 t
 text_utf8 most t h = plain_utf8 t (and-left (is_plain t) (nat_le (char_count t) most) h)
 
-opt_text_utf8 : (most : ℕ) (t : Option (List ℕ)) → is_text_or_none most t ≡ true → IsUtf8 (or_empty t)
+opt_text_utf8 : (most : ℕ) (t : Option (List ℕ)) → is_text_or_none most t ≡ true → IsUtf8 (unwrap_or t [])
 opt_text_utf8 most None h = IsUtf8-nil
 opt_text_utf8 most (Some t) h = text_utf8 most t h
 
@@ -161,7 +161,7 @@ blpu_are x h =
     let h6 = and-left _ _ h5 in
     let h7 = and-left _ _ h6 in
     let dates : AreTexts (date_text x.start ∷ end_text x.end ∷ []) = (date_utf8 x.start (and-right _ _ h2), (end_utf8 x.end (and-right _ _ h1), tt)) in
-    let more : AreTexts (parent_text x.parent ∷ or_empty x.postcode ∷ date_text x.start ∷ end_text x.end ∷ []) = (parent_utf8 x.parent (and-right _ _ h4), (opt_text_utf8 8 x.postcode (and-right _ _ h3), dates)) in (
+    let more : AreTexts (parent_text x.parent ∷ unwrap_or x.postcode [] ∷ date_text x.start ∷ end_text x.end ∷ []) = (parent_utf8 x.parent (and-right _ _ h4), (opt_text_utf8 8 x.postcode (and-right _ _ h3), dates)) in (
       up_to 1 999_999_999_999 x.uprn (lit< tt) (and-left _ _ h7),
       (status_utf8 x.status, (from_nought 700_000 x.easting (lit< tt) (and-right _ _ h6), (from_nought 1_300_000 x.northing (lit< tt) (and-right _ _ h5), more))),
     )

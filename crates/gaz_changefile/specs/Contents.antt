@@ -1,10 +1,10 @@
 -- What the records of a good file say.
 use Rattle.std.specs.Prelude.{ℕ, ◌==◌, List, [], ◌∷◌, drop, length, Option, Some, None, Result, Ok}
 use Rattle.std.specs.Prelude.{Err, if◌then◌else◌}
+use Rattle.std.specs.Option.{unwrap_or}
 use Rattle.std.specs.List.{enumerate_from, filter_map}
 use Rattle.gaz_rows.specs.Rows.{Fields}
 use Rattle.gaz_records.specs.Days.{CivilDay, date_of, no_day}
-use Rattle.gaz_records.specs.Fields.{value_or}
 use Rattle.gaz_records.specs.Items.{read_item}
 use Rattle.gaz_records.specs.declared.fields.FieldFault.{FieldFault}
 use Rattle.gaz_records.specs.declared.item.Item.{Item}
@@ -26,7 +26,7 @@ pub record Contents : Type 0 where
 -- the date in the header
 abbrev pub date_in : List Fields → CivilDay
 date_in [] = no_day
-date_in (row ∷ rows) = value_or no_day (date_of (field row 4))
+date_in (row ∷ rows) = unwrap_or (date_of (field row 4)) no_day
 
 -- a basis, where its custodian and its volume were read
 abbrev pub basis_from : Option ℕ → Option ℕ → Option Basis

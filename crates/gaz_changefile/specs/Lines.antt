@@ -1,12 +1,13 @@
 -- What the fields of one record say.
 use Rattle.std.specs.Prelude.{ℕ, ◌==◌, ◌||◌, List, [], ◌∷◌, Option, Some, None, if◌then◌else◌}
 use Rattle.std.specs.Prelude.{Bool, true, false, codes}
+use Rattle.std.specs.Option.{unwrap_or}
+use Rattle.std.specs.Result.{result_ok}
 use Rattle.std.specs.Str.{bytes_eq}
 use Rattle.gaz_ids.specs.Limits.{last_volume, most_changes}
 use Rattle.gaz_ids.specs.Numbers.{read_id}
 use Rattle.gaz_rows.specs.Rows.{Fields}
 use Rattle.gaz_records.specs.Fields as Records
-use Rattle.gaz_records.specs.Fields.{ok_of, value_or}
 use Rattle.gaz_records.specs.Kinds.{identified, is_entry_kind}
 use Rattle.gaz_records.specs.declared.item.Kind.{Kind}
 use Rattle.gaz_changefile.specs.declared.action.Action.{Action}
@@ -25,19 +26,19 @@ is_known_profile profile = (profile == 1) || (profile == 2)
 
 -- the numbers of a file: digits up to a width, in a range
 abbrev pub read_profile : List ℕ → Option ℕ
-read_profile text = ok_of (read_id 4 1 9999 text)
+read_profile text = result_ok (read_id 4 1 9999 text)
 
 abbrev pub read_code : List ℕ → Option ℕ
-read_code text = ok_of (read_id 4 1 9999 text)
+read_code text = result_ok (read_id 4 1 9999 text)
 
 abbrev pub read_volume : List ℕ → Option ℕ
-read_volume text = ok_of (read_id 6 1 last_volume text)
+read_volume text = result_ok (read_id 6 1 last_volume text)
 
 abbrev pub read_order : List ℕ → Option ℕ
-read_order text = ok_of (read_id 4 1 most_changes text)
+read_order text = result_ok (read_id 4 1 most_changes text)
 
 abbrev pub read_count : List ℕ → Option ℕ
-read_count text = ok_of (read_id 4 0 most_changes text)
+read_count text = result_ok (read_id 4 0 most_changes text)
 
 -- a profile was read, and is known
 abbrev pub is_known : Option ℕ → Bool
@@ -47,7 +48,7 @@ is_known (Some profile) = is_known_profile profile
 -- the profile that the header names, which is the first record; 1 where it names none
 abbrev pub profile_named : List Fields → ℕ
 profile_named [] = 1
-profile_named (row ∷ rows) = value_or 1 (read_profile (field row 1))
+profile_named (row ∷ rows) = unwrap_or (read_profile (field row 1)) 1
 
 -- a number was read, and is n
 abbrev pub is_value : ℕ → Option ℕ → Bool

@@ -1,6 +1,7 @@
 -- How a file is read record by record.
 use Rattle.std.specs.Prelude.{◌≡◌, ◌≤◌, ℕ, ◌+◌, List, [], ◌∷◌, ◌++◌, length, Option, Some, None}
 use Rattle.std.specs.Prelude.{Bool, false, true, cond, Result, Ok, Err}
+use Rattle.std.specs.Option.{option_to_list}
 use Rattle.gaz_ids.specs.Limits.{most_changes}
 use Rattle.gaz_rows.specs.Rows.{Fields}
 use Rattle.gaz_changefile.specs.Contents.{basis_at, change_at}
@@ -20,11 +21,6 @@ IsFirstOf place rules Memory = Unit {0}
 abbrev pub KeepsAll : List (ℕ × Bool) → Type 0
 KeepsAll rules = first_broken rules ≡ None
 
--- one thing or none, as a list
-abbrev pub listed : {A : Type 0} → Option A → List A
-listed None = []
-listed (Some x) = x ∷ []
-
 -- what stands before the next record of a file that was read so far
 abbrev pub before_in : FileDraft → Before
 before_in draft = record {
@@ -40,8 +36,8 @@ before_in draft = record {
 pub record Adds (old new : FileDraft) (place : ℕ) (row : Fields) : Type 0 where
   pub kept : first_broken (later_rules old.own (before_in old) (Some row)) ≡ None
   pub open_before : old.ended ≡ false
-  pub bases : new.bases.items ≡ old.bases.items ++ listed (basis_at old.profile row)
-  pub changes : new.changes.items ≡ old.changes.items ++ listed (change_at old.profile (place, row))
+  pub bases : new.bases.items ≡ old.bases.items ++ option_to_list (basis_at old.profile row)
+  pub changes : new.changes.items ≡ old.changes.items ++ option_to_list (change_at old.profile (place, row))
   pub base_count :
       length new.bases.items ≡ length old.bases.items + cond (is_basis old.profile row) 1 0
   pub count :

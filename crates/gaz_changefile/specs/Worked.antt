@@ -1,12 +1,18 @@
 -- Worked files, whose readings and profiles were told beforehand.
-use Rattle.std.specs.Prelude.{◌≡◌, ℕ, List, [], ◌∷◌, ◌++◌, None, Some, codes}
+use Rattle.std.specs.Prelude.{◌≡◌, ℕ, List, [], ◌∷◌, ◌++◌, Option, None, Some, codes, decimal}
+use Rattle.std.specs.Prelude.{false, flat_map}
+use Rattle.std.specs.List.{range_with_len}
 use Rattle.gaz_ids.specs.declared.lang.Lang.TheVariants.{Eng}
 use Rattle.gaz_ids.specs.declared.status.Status.TheVariants.{Approved}
+use Rattle.gaz_rows.specs.Rows.{Fields}
 use Rattle.gaz_records.specs.declared.item.Item.TheVariants as item
 use Rattle.gaz_changefile.specs.Contents.{Contents}
 use Rattle.gaz_changefile.specs.Profile.{profile_of}
 use Rattle.gaz_changefile.specs.Reading.{Bad, Good, reading}
-use Rattle.gaz_changefile.specs.WorkedPassings.{WorkedAdoptions, WorkedReleases, line}
+use Rattle.gaz_changefile.specs.Rules.{first_broken, later_rules}
+use Rattle.gaz_changefile.specs.WorkedPassings.{WorkedAdoptions, WorkedPassages, WorkedReleases}
+use Rattle.gaz_changefile.specs.WorkedPassings.{line}
+use Rattle.gaz_changefile.specs.Writing.{file_text, profile_for}
 use Rattle.gaz_changefile.specs.declared.action.Action.TheVariants.{Insert}
 
 abbrev header : List ℕ
@@ -117,6 +123,64 @@ pub record WorkedFiles : Type 0 where
   pub empty : reading [] 1001 1 ≡ Bad 1 1
   pub releases : WorkedReleases
   pub adoptions : WorkedAdoptions
+
+-- a file of custodian 1001, volume 1, with this change record alone
+abbrev changing : List ℕ → List ℕ
+changing record_2 = header ++ (line record_2 ++ line (codes "99,1"))
+
+-- what is wrong with some change records: the count of the fields is looked at before their forms,
+-- and the forms before the order
+pub record WorkedChanges : Type 0 where
+  pub leading_zeros :
+      reading (changing (codes "11,I,0001,101,1,2001-04-01,")) 1001 1 ≡ Good street_101
+  pub five_digits : reading (changing (codes "11,I,00001,101,1,2001-04-01,")) 1001 1 ≡ Bad 2 7
+  pub other_order : reading (changing (codes "11,I,2,101,1,2001-04-01,")) 1001 1 ≡ Bad 2 7
+  pub no_month : reading (changing (codes "11,I,2,101,1,2001-13-01,")) 1001 1 ≡ Bad 2 6
+  pub no_change : reading (changing (codes "11,X,2,101,1,2001-04-01,")) 1001 1 ≡ Bad 2 6
+  pub two_too_few : reading (changing (codes "11,X,2,101,1")) 1001 1 ≡ Bad 2 5
+  pub one_too_many : reading (changing (codes "11,I,1,101,1,2001-04-01,,")) 1001 1 ≡ Bad 2 5
+  -- a deletion is read whole
+  pub deletion : reading (changing (codes "11,D,1,101,1,2001-02-29,")) 1001 1 ≡ Bad 2 6
+  pub no_kind : reading (changing (codes "12,I,1,101,1,2001-04-01,")) 1001 1 ≡ Bad 2 5
+
+-- the first rule that a record of a file of custodian 1001 breaks, behind so many basis lines and
+-- change records
+abbrev broken_behind : ℕ → ℕ → Fields → Option ℕ
+broken_behind bases changes row =
+    first_broken (later_rules 1001
+    (record { profile = 1; bases = bases; changes = changes; last = None; ended = false })
+    (Some row))
+
+-- a street with this order
+abbrev street : List ℕ → Fields
+street order =
+    codes "11" ∷ codes "I" ∷ order ∷ codes "101" ∷ codes "1" ∷ codes "2001-04-01" ∷ [] ∷ []
+
+-- so many basis lines, of the custodians 1, 2, 3 and so on
+abbrev basis_lines : ℕ → List ℕ
+basis_lines n =
+    flat_map (λ c. line (codes "90," ++ (decimal c ++ codes ",1"))) (range_with_len 1 n)
+
+-- the most change records and basis lines of a file, and one more
+pub record WorkedLimits : Type 0 where
+  pub last_change : broken_behind 0 4999 (street (codes "5000")) ≡ None
+  pub one_more : broken_behind 0 5000 (street (codes "5001")) ≡ Some 9
+  -- nothing else of that is looked at
+  pub one_more_cut : broken_behind 0 5000 (codes "11" ∷ []) ≡ Some 9
+  pub other_kind : broken_behind 0 5000 (codes "91" ∷ []) ≡ Some 5
+  pub trailer : broken_behind 0 5000 (codes "99" ∷ codes "5000" ∷ []) ≡ None
+  pub other_count : broken_behind 0 5000 (codes "99" ∷ codes "4999" ∷ []) ≡ Some 8
+  pub last_basis : broken_behind 15 0 (codes "90" ∷ codes "1002" ∷ codes "1" ∷ []) ≡ None
+  pub one_more_basis : broken_behind 16 0 (codes "90" ∷ codes "1002" ∷ codes "1" ∷ []) ≡ Some 4
+  pub seventeen : reading (resting (basis_lines 17)) 1002 1 ≡ Bad 18 4
+
+-- what is written of some files, and the profile for it
+pub record WorkedWriting : Type 0 where
+  pub street : file_text 1001 1 street_101 ≡ header ++ (insertion ++ line (codes "99,1"))
+  pub house : file_text 1002 1 house_7
+      ≡ house_header ++ (line (codes "90,1001,1") ++ (house_changes ++ line (codes "99,2")))
+  pub entries : profile_for street_101.changes ≡ 1
+  pub passages : WorkedPassages
 
 -- the profile that a first record names, whatever else is in it
 pub record WorkedProfiles : Type 0 where

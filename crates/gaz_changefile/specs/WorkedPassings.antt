@@ -5,6 +5,7 @@ use Rattle.gaz_ids.specs.declared.status.Status.TheVariants.{Approved, Historica
 use Rattle.gaz_records.specs.declared.item.Item.TheVariants as item
 use Rattle.gaz_changefile.specs.Contents.{Contents}
 use Rattle.gaz_changefile.specs.Reading.{Bad, Good, reading}
+use Rattle.gaz_changefile.specs.Writing.{file_text, profile_for}
 use Rattle.gaz_changefile.specs.declared.action.Action.TheVariants.{Insert}
 
 -- a text and the line feed that ends its line
@@ -87,3 +88,10 @@ pub record WorkedAdoptions : Type 0 where
   pub end_before_start :
       reading (adopting (codes "92,I,1,500,1001,1,1,450000,250000,,,2020-01-01,2019-12-31")) 1002 1
       ≡ Bad 3 6
+
+-- what is written of a release and of an adoption, and the profile for it
+pub record WorkedPassages : Type 0 where
+  pub release : file_text 1001 1 released ≡ releasing (codes "91,I,1,500,1002,1")
+  pub adoption : file_text 1002 1 (adopted Approved)
+      ≡ adopting (codes "92,I,1,500,1001,1,1,450000,250000,,,2020-01-01,")
+  pub profile : profile_for released.changes ≡ 2

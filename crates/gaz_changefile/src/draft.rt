@@ -1,8 +1,8 @@
-ghost use Rattle.std.specs.Prelude.{◌≡◌, ◌≤◌, ◌<◌, ◌+◌, [], length, false, IfErr, IfOk, OnOk, Some};
+ghost use Rattle.std.specs.Prelude.{◌≡◌, ◌≤◌, ◌<◌, [], length, false, IfErr, IfOk, OnOk, Some};
 ghost use Rattle.std.specs.Prelude.{None};
 ghost use Rattle.csv.specs.Records.{fields_of};
 ghost use Rattle.gaz_changefile.specs.Contents.{basis_in};
-ghost use Rattle.gaz_changefile.specs.Rules.{basis_rules, first_broken, is_above, later_rules};
+ghost use Rattle.gaz_changefile.specs.Rules.{basis_rules, is_above, later_rules};
 ghost use Rattle.gaz_changefile.specs.Steps.{Adds, IsFirstOf, KeepsAll, before_in};
 
 use crate::change::{Basis, Change};

@@ -2,7 +2,8 @@
 ghost use Rattle.gaz_changefile.specs.Laws.{BasesRise, ChangesAreAllowed, ChangesArePlaced};
 ghost use Rattle.gaz_changefile.specs.Laws.{EntriesAlone, FilesReadBack};
 ghost use Rattle.gaz_changefile.specs.Laws.{LeastFault, ReadingsAreTyped};
-ghost use Rattle.gaz_changefile.specs.Worked.{WorkedBases, WorkedFiles, WorkedProfiles};
+ghost use Rattle.gaz_changefile.specs.Worked.{WorkedBases, WorkedChanges, WorkedFiles};
+ghost use Rattle.gaz_changefile.specs.Worked.{WorkedLimits, WorkedProfiles, WorkedWriting};
 
 /// A bad reading names the least place at which a rule is broken and, there, the first that is. A
 /// good one breaks none.
@@ -56,4 +57,19 @@ pub fn worked_bases()
 /// What profiles some first records name by the definition.
 pub fn worked_profiles()
     ensures { WorkedProfiles }
+{}
+
+/// What some files of one change record say by the definition of a reading.
+pub fn worked_changes()
+    ensures { WorkedChanges }
+{}
+
+/// Which rules records at the limits of a file break by the definition.
+pub fn worked_limits()
+    ensures { WorkedLimits }
+{}
+
+/// What is written of some files by the definition.
+pub fn worked_writing()
+    ensures { WorkedWriting }
 {}

@@ -19,6 +19,7 @@ mod write;
 pub use action::Action;
 pub use change::{Basis, Change};
 pub use file::{ChangeFile, FileFault};
+pub use numbers::is_known_profile;
 pub use profile::profile_of;
 pub use read::read_file;
 pub use write::write_file;

@@ -1,5 +1,5 @@
 ghost use Rattle.std.specs.Prelude.{◌≡◌};
-ghost use Rattle.gaz_records.specs.Fields.{ok_of};
+ghost use Rattle.std.specs.Result.{result_ok};
 ghost use Rattle.gaz_changefile.specs.Lines.{is_known_profile, is_value};
 
 use gaz_ids::{IdFault, MOST_CHANGES, Number};
@@ -17,7 +17,7 @@ pub(crate) type Profile = Number<7, 4, 1, 9999>;
 pub(crate) type Count = Number<8, 4, 0, MOST_CHANGES>;
 
 /// Whether files of the profile are read.
-pub(crate) fn is_known_profile(profile: u64) -> bool
+pub fn is_known_profile(profile: u64) -> bool
     ensures { result ≡ is_known_profile profile }
 {
     profile == ENTRIES || profile == PASSINGS
@@ -28,7 +28,7 @@ pub(crate) fn is_value<const KIND: u64, const WIDTH: u64, const LOW: u64, const 
     read: Result<Number<KIND, WIDTH, LOW, HIGH>, IdFault>,
     n: u64,
 ) -> bool
-    ensures { result ≡ is_value n (ok_of read.entry) }
+    ensures { result ≡ is_value n (result_ok read.entry) }
 {
     match read {
         Ok(m) => m.number() == n,

@@ -1,7 +1,7 @@
 ghost use Rattle.std.specs.Prelude.{◌≡◌, ◌≤◌, ◌<◌, ◌+◌, IfErr, IfOk, OnOk, Some, None};
 ghost use Rattle.csv.specs.Records.{fields_of};
 ghost use Rattle.gaz_changefile.specs.Lines.{action_of, field};
-ghost use Rattle.gaz_changefile.specs.Rules.{change_rules, first_broken, read_rules, trailer_rules};
+ghost use Rattle.gaz_changefile.specs.Rules.{change_rules, read_rules, trailer_rules};
 ghost use Rattle.gaz_changefile.specs.Contents.{basis_in, change_in};
 ghost use Rattle.gaz_changefile.specs.Steps.{IsFirstOf, KeepsAll};
 

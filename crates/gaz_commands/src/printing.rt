@@ -1,4 +1,4 @@
-ghost use Rattle.std.specs.Prelude.{◌≡◌, true};
+ghost use Rattle.std.specs.Prelude.{true};
 ghost use Rattle.gaz_commands.specs.Saying.{text_of};
 ghost use Rattle.gaz_commands.specs.Printing.{IsPrinted};
 

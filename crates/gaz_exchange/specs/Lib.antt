@@ -11,6 +11,8 @@ pub mod Conversing
 pub mod Streams
 pub mod WorkedStreams
 pub mod WorkedEnds
+pub mod WorkedFraming
+pub mod WorkedReplies
 pub mod Next
 pub mod Sparing
 pub mod Supplies

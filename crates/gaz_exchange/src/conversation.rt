@@ -215,8 +215,8 @@ fn take_turns<R: Source, W: Sink, K: Inbox + Drop>(
 /// What is written and how the conversation ends is known whatever the hub's keeper does. Where it
 /// ends, no other request may follow those that were answered, or none stands whole in what was
 /// read behind them, unless there was no memory for the body of the next. The hub's answers are a
-/// run of its steps where the keeper stood for a content before, and nobody else wrote on it nor
-/// did a failure shut it.
+/// run of its steps where the keeper stood before for a content that the hub may have and what the
+/// hub remembered of it was right, and nobody else wrote on it nor did a failure shut it.
 ///
 /// It stops only where the reader or the writer failed. A reader whose reads are counted is read at
 /// most once for each byte, and once more, which finds the end or fails; for bytes behind the last

@@ -2,6 +2,8 @@
 ghost use Rattle.gaz_exchange.specs.Conversing.{NeverStops};
 ghost use Rattle.gaz_exchange.specs.Streams.{BytesTellRequests};
 ghost use Rattle.gaz_exchange.specs.WorkedEnds.{WorkedEnds};
+ghost use Rattle.gaz_exchange.specs.WorkedFraming.{WorkedFraming};
+ghost use Rattle.gaz_exchange.specs.WorkedReplies.{WorkedReplies};
 ghost use Rattle.gaz_exchange.specs.WorkedStreams.{WorkedStreams};
 
 use crate::sink::Sink;
@@ -22,6 +24,16 @@ pub fn worked_streams()
 /// examples.
 pub fn worked_ends()
     ensures { WorkedEnds }
+{}
+
+/// How long the body of a request is and which request is the last, on worked examples.
+pub fn worked_framing()
+    ensures { WorkedFraming }
+{}
+
+/// The texts of replies, on worked examples.
+pub fn worked_replies()
+    ensures { WorkedReplies }
 {}
 
 /// Where neither the reader nor the writer can fail, no conversation stops.

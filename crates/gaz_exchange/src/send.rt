@@ -1,6 +1,6 @@
-ghost use Rattle.std.specs.Prelude.{◌≡◌, ◌++◌, false, true, ℕ, List, length, IfOk};
+ghost use Rattle.std.specs.Prelude.{◌≡◌, ◌++◌, false, true, length, IfOk};
 ghost use Rattle.gaz_exchange.specs.Failing.{FailedInto};
-ghost use Rattle.gaz_exchange.specs.Replies.{IsReplyText, end_of, reply_text, takes_memory};
+ghost use Rattle.gaz_exchange.specs.Replies.{end_of, reply_text, takes_memory};
 ghost use Rattle.gaz_exchange.specs.Sending.{IsPut, IsSent, head_of};
 ghost use Rattle.gaz_exchange.specs.declared.fault.Fault.{Fault};
 ghost use Rattle.gaz_exchange.specs.declared.reply.Reply.TheVariants as Reply;

@@ -15,6 +15,7 @@ use Rattle.gaz_records.specs.declared.item.Item.{Item}
 use Rattle.gaz_records.specs.declared.key.Key.{Key}
 use Rattle.gaz_views.specs.View.{View, empty_view, with_item}
 use Rattle.gaz_views.specs.Words.{entries}
+use Rattle.gaz_views.proofs.Emptiness.{get_none}
 use Rattle.gaz_views.proofs.Trees.{no_entries}
 use Rattle.std.proofs.lemmas.Map.Lookups.{exact_unsigned}
 use Rattle.std.specs.declared.cmp.Ordering.{Ordering}
@@ -56,6 +57,18 @@ one_written = written (codes "1") refl (lit< tt) (λ e. refl) (lit< tt)
 two_written : decimal 2 ≡ codes "2"
 two_written = written (codes "2") refl (lit< tt) (λ e. refl) (lit< tt)
 
+three_written : decimal 3 ≡ codes "3"
+three_written = written (codes "3") refl (lit< tt) (λ e. refl) (lit< tt)
+
+four_written : decimal 4 ≡ codes "4"
+four_written = written (codes "4") refl (lit< tt) (λ e. refl) (lit< tt)
+
+five_written : decimal 5 ≡ codes "5"
+five_written = written (codes "5") refl (lit< tt) (λ e. refl) (lit< tt)
+
+six_written : decimal 6 ≡ codes "6"
+six_written = written (codes "6") refl (lit< tt) (λ e. refl) (lit< tt)
+
 seven_written : decimal 7 ≡ codes "7"
 seven_written = written (codes "7") refl (lit< tt) (λ e. refl) (lit< tt)
 
@@ -64,6 +77,15 @@ twelve_written = written (codes "12") refl (lit< tt) (λ e. absurd (omega arith)
 
 fourteen_written : decimal 14 ≡ codes "14"
 fourteen_written = written (codes "14") refl (lit< tt) (λ e. absurd (omega arith)) (lit< tt)
+
+forty_two_written : decimal 42 ≡ codes "42"
+forty_two_written = written (codes "42") refl (lit< tt) (λ e. absurd (omega arith)) (lit< tt)
+
+high_street_written : decimal 101 ≡ codes "101"
+high_street_written = written (codes "101") refl (lit< tt) (λ e. absurd (omega arith)) (lit< tt)
+
+county_written : decimal 1001 ≡ codes "1001"
+county_written = written (codes "1001") refl (lit< tt) (λ e. absurd (omega arith)) (lit< tt)
 
 street_written : decimal 150 ≡ codes "150"
 street_written = written (codes "150") refl (lit< tt) (λ e. absurd (omega arith)) (lit< tt)
@@ -88,6 +110,8 @@ on_lookups = record {
   own_street = simp (found, these) (ap (λ (t : List ℕ). Some (record { custodian = 1001; uprn = 42; status = Approved; line = Some t })) on_lines.a_flat);
   street_of_another = simp (found, these) (ap (λ (t : List ℕ). Some (record { custodian = 1002; uprn = 100001; status = Approved; line = Some t })) on_lines.no_postcode);
   nowhere = simp (found, these);
+  no_descriptor = simp (found, these, get_none, no_entries_yet);
+  no_address = simp (found, these, get_none, no_entries_yet);
 }
 
 shut : is_closed_elsewhere two_custodians two_in_register 1002 150 ≡ true
@@ -124,6 +148,9 @@ on_extracts : WorkedExtracts
 unfolding fields_text escaped is_blank lines_of
 on_extracts = record {
   of_the_district = simp (found, these, zero_written, one_written, two_written, seven_written, street_written, district_written, house_written);
+  earlier = simp (these, zero_written, one_written, two_written, three_written, four_written, five_written, six_written, seven_written, twelve_written, fourteen_written, forty_two_written, high_street_written, street_written, county_written);
+  last = simp (these, zero_written, one_written, two_written, three_written, four_written, five_written, six_written, seven_written, twelve_written, fourteen_written, forty_two_written, high_street_written, street_written, county_written);
+  before_the_first = simp (no_entries_yet, zero_written, county_written);
   not_reached = refl;
   before_any = refl;
 }

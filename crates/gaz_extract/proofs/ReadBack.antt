@@ -1,6 +1,7 @@
 -- An extract reads back as the view that it was taken of.
 use Rattle.std.proofs.Common.{◌≡◌, ◌∙◌, ◌+◌, ℕ, Bool, true, false, cond, ◌&&◌, List, [], ◌∷◌, ◌++◌, map, length, append_assoc, append-nil, refl, sym, ap, subst, arith, T}
 use Rattle.std.specs.Prelude.{Some, None, fold, nat_le}
+use Rattle.std.specs.Result.{result_ok}
 use Rattle.std.specs.List.{All, cons_option, filter_map}
 use Rattle.csv.specs.Reading.{default_config, records, strip_bom}
 use Rattle.csv.specs.Writing.{fields_text}
@@ -15,7 +16,6 @@ use Rattle.gaz_rows.proofs.Back.{rows-read-back}
 use Rattle.gaz_records.proofs.ItemsBack.{fields-back}
 use Rattle.gaz_records.proofs.KeyOrder.{keys_exact, keys_total}
 use Rattle.gaz_records.specs.Keys.{key_cmp, key_of}
-use Rattle.gaz_records.specs.Fields.{ok_of}
 use Rattle.gaz_records.specs.Items.{is_item}
 use Rattle.gaz_records.specs.declared.item.Item.{Item}
 use Rattle.gaz_records.specs.declared.item.Item.TheVariants as item
@@ -46,13 +46,13 @@ rows_back c volume items =
 
 -- a record inserts its item
 record_back : (order : ℕ) (i : Item) → is_item i ≡ true → inserted (record_of order i) ≡ Some i
-record_back order (item.Street x) h = ap ok_of (fields-back (item.Street x) h)
-record_back order (item.Descriptor x) h = ap ok_of (fields-back (item.Descriptor x) h)
-record_back order (item.Blpu x) h = ap ok_of (fields-back (item.Blpu x) h)
-record_back order (item.Xref x) h = ap ok_of (fields-back (item.Xref x) h)
-record_back order (item.Lpi x) h = ap ok_of (fields-back (item.Lpi x) h)
-record_back order (item.Release x) h = ap ok_of (fields-back (item.Release x) h)
-record_back order (item.Adopt x) h = ap ok_of (fields-back (item.Adopt x) h)
+record_back order (item.Street x) h = ap result_ok (fields-back (item.Street x) h)
+record_back order (item.Descriptor x) h = ap result_ok (fields-back (item.Descriptor x) h)
+record_back order (item.Blpu x) h = ap result_ok (fields-back (item.Blpu x) h)
+record_back order (item.Xref x) h = ap result_ok (fields-back (item.Xref x) h)
+record_back order (item.Lpi x) h = ap result_ok (fields-back (item.Lpi x) h)
+record_back order (item.Release x) h = ap result_ok (fields-back (item.Release x) h)
+record_back order (item.Adopt x) h = ap result_ok (fields-back (item.Adopt x) h)
 
 abbrev IsAllowed : Item → Type 0
 IsAllowed i = is_item i ≡ true

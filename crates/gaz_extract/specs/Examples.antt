@@ -149,6 +149,20 @@ two_custodians = λ c. if c == 1001
     ∷ []
     else if c == 1002 then record { verdict = Applied; view = district } ∷ [] else []
 
+-- the district's house while the county has no street
+abbrev pub district_alone : Board
+district_alone = λ c. if c == 1002 then record { verdict = Applied; view = district } ∷ [] else []
+
+-- the county has a property with no address
+abbrev pub unaddressed_items : List Item
+unaddressed_items = item.Blpu (property 43 None) ∷ []
+
+abbrev pub unaddressed : View
+unaddressed = fold with_item empty_view unaddressed_items
+
+abbrev pub county_alone : Board
+county_alone = λ c. if c == 1001 then record { verdict = Applied; view = unaddressed } ∷ [] else []
+
 -- the county's streets are 100 to 199, the district's 200 to 299
 abbrev pub two_in_register : RegisterValue
 two_in_register =
@@ -179,6 +193,19 @@ pub record WorkedLookups : Type 0 where
     line = Some (codes "7 County Road, Arden");
   })
   pub nowhere : lookup two_custodians two_in_register 43 ≡ None
+  -- without its street's descriptor, or without an address, there is no line
+  pub no_descriptor : lookup district_alone two_in_register 100001 ≡ Some (record {
+    custodian = 1002;
+    uprn = 100001;
+    status = Approved;
+    line = None;
+  })
+  pub no_address : lookup county_alone two_in_register 43 ≡ Some (record {
+    custodian = 1001;
+    uprn = 43;
+    status = Approved;
+    line = None;
+  })
 
 pub record WorkedClosings : Type 0 where
   pub one_address : closed_streets two_custodians two_in_register
@@ -197,12 +224,30 @@ pub record WorkedClosings : Type 0 where
 abbrev pub line : List ℕ → List ℕ
 line text = text ++ 10 ∷ []
 
+-- the extract of the county after a volume, with the end of its other street
+abbrev pub county_text : List ℕ → List ℕ → List ℕ
+county_text volume end =
+    line (codes "10,E,1001," ++ volume)
+    ++ (line (codes "11,I,1,101,1,2001-04-01,")
+    ++ (line (codes "11,I,2,150,1,2001-04-01," ++ end)
+    ++ (line (codes "15,I,3,101,ENG,High Street,,Arden,Arden")
+    ++ (line (codes "15,I,4,150,ENG,County Road,,Arden,Arden")
+    ++ (line (codes "21,I,5,42,1,0,0,,AR1 2DN,2001-04-01,")
+    ++ (line (codes "24,I,6,A1,42,ENG,8,101,,,,,,,,,,The Old Mill,2001-04-01,")
+    ++ (line (codes "24,I,7,L1,42,ENG,1,101,,,,,Flat 2,12,A,14,,,2001-04-01,")
+    ++ line (codes "99,7"))))))))
+
 pub record WorkedExtracts : Type 0 where
   pub of_the_district : extract two_custodians 1002 1 ≡ Some
       (line (codes "10,E,1002,1")
       ++ (line (codes "21,I,1,100001,1,0,0,,,2001-04-01,")
       ++ (line (codes "24,I,2,K1,100001,ENG,1,150,,,,,,7,,,,,2001-04-01,")
       ++ line (codes "99,2"))))
+  -- after the volume that is asked for, whatever came later
+  pub earlier : extract two_custodians 1001 1 ≡ Some (county_text (codes "1") [])
+  pub last : extract two_custodians 1001 2 ≡ Some (county_text (codes "2") (codes "2024-04-30"))
+  pub before_the_first : extract two_custodians 1001 0
+      ≡ Some (line (codes "10,E,1001,0") ++ line (codes "99,0"))
   pub not_reached : extract two_custodians 1002 2 ≡ None
   pub before_any : extract two_custodians 1003 1 ≡ None
 

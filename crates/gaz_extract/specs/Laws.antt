@@ -1,10 +1,10 @@
 -- What holds of every extract.
 use Rattle.std.specs.Prelude.{◌≡◌, ◌∷◌, ℕ, List, codes, fold, Option, Some, None, true}
 use Rattle.std.specs.Prelude.{if◌then◌else◌}
+use Rattle.std.specs.Result.{result_ok}
 use Rattle.std.specs.List.{All, filter_map}
 use Rattle.std.specs.Option.{option_and_then}
 use Rattle.std.specs.Str.{bytes_eq}
-use Rattle.gaz_records.specs.Fields.{ok_of}
 use Rattle.gaz_records.specs.Items.{is_item, read_item}
 use Rattle.gaz_records.specs.Kinds.{identified}
 use Rattle.gaz_records.specs.declared.item.Item.{Item}
@@ -21,7 +21,7 @@ use Rattle.gaz_extract.specs.Extracts.{extract, items_of}
 abbrev pub inserted : Fields → Option Item
 inserted (id ∷ (change ∷ (order ∷ fields))) =
     if bytes_eq change (codes "I")
-    then option_and_then (λ k. ok_of (read_item k fields)) (identified id) else None
+    then option_and_then (λ k. result_ok (read_item k fields)) (identified id) else None
 inserted _ = None
 
 -- the items that the rows of a text insert, one after another

@@ -1,4 +1,4 @@
-ghost use Rattle.std.specs.Prelude.{◌≡◌, ◌++◌, codes, IfOk, OnOk, option_map};
+ghost use Rattle.std.specs.Prelude.{◌≡◌, ◌++◌, IfOk, OnOk};
 ghost use Rattle.std.specs.String.{string_bytes};
 ghost use Rattle.gaz_extract.specs.Lines.{area_of, is_town, line_text, numbers_of, on_street};
 ghost use Rattle.gaz_extract.specs.Lines.{text_of};

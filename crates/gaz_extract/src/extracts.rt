@@ -1,4 +1,4 @@
-ghost use Rattle.std.specs.Prelude.{◌≡◌, ◌≤◌, ◌<◌, None, true, is_some, option_map, IfOk};
+ghost use Rattle.std.specs.Prelude.{◌≡◌, ◌<◌, None, true, is_some, option_map, IfOk};
 ghost use Rattle.gaz_records.specs.Kinds.{is_entry_kind};
 ghost use Rattle.gaz_views.specs.Reading.{left_after};
 ghost use Rattle.gaz_views.specs.Words.{rest_of};

@@ -7,8 +7,8 @@ pub fn worked_examples()
     ensures { WorkedExamples }
 {}
 
-/// The text of an extract, read as rows, inserts just the items of the view that it was taken of,
-/// and they give what that view holds.
+/// The text of an extract of a lawful view of items that the table of fields allows, read as rows,
+/// inserts just the items of that view, and they give what it holds.
 pub fn extracts_read_back()
     ensures { ExtractsReadBack }
 {}

@@ -1,5 +1,5 @@
 //! Views page by page.
-ghost use Rattle.std.specs.Prelude.{◌≡◌, ◌≤◌, ◌<◌, ◌++◌, true, is_some, IfOk, Some};
+ghost use Rattle.std.specs.Prelude.{◌≡◌, ◌<◌, ◌++◌, true, is_some, IfOk, Some};
 ghost use Rattle.gaz_records.specs.Keys.{number_in};
 ghost use Rattle.gaz_records.specs.Kinds.{is_entry_kind};
 ghost use Rattle.gaz_records.specs.SortKeys.{has_label, seven_bytes};

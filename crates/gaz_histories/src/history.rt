@@ -1,8 +1,8 @@
 //! The versions of one key.
-ghost use Rattle.std.specs.Prelude.{◌≡◌, ◌↔◌, ◌++◌, ◌∷◌, [], ◌≤◌, take, length, nat_le, nat_lt};
-ghost use Rattle.std.specs.Prelude.{OnOk, OnErr, IfOk, IsOk, IsTrue, option_map};
+ghost use Rattle.std.specs.Prelude.{◌≡◌, ◌↔◌, ◌++◌, ◌∷◌, []};
+ghost use Rattle.std.specs.Prelude.{OnOk, OnErr, IsOk, IsTrue, option_map};
 ghost use Rattle.gaz_histories.specs.Histories.{Ascends, BeginsFrom, IsOverBy, before, is_empty};
-ghost use Rattle.gaz_histories.specs.Histories.{lived, standing_at, until, was_used_at};
+ghost use Rattle.gaz_histories.specs.Histories.{lived, standing_at, was_used_at};
 ghost use Rattle.gaz_histories.specs.Kept.{versions_in};
 
 use crate::kept::Kept;
@@ -103,7 +103,8 @@ impl<T: Drop> History<T> {
     }
 
     /// This stands at the key from a volume on, and until another where one is given. What began at
-    /// the volume or after it is forgotten. Where memory runs out, nothing changes.
+    /// the volume or after it, or at its end where that comes before, is forgotten. Where memory
+    /// runs out, nothing changes.
     pub fn live(&mut self, born: u64, gone: Option<u64>, standing: T) -> Result<(), AllocError>
         ensures ok { OnOk result (self.new ≡ lived self.old born gone standing) }
         ensures err { OnErr result (self.new ≡ self.old) }

@@ -19,7 +19,7 @@ use Rattle.gaz_hub.specs.Outcomes.{wants}
 use Rattle.gaz_hub.specs.Seen.{CallsKeeper, IsAfterComing, IsKeptOrLost, kept_seen, sured}
 use Rattle.gaz_hub.specs.Settling.{Advances, IsNext, Tells}
 use Rattle.gaz_hub.specs.Step.{Door}
-use Rattle.gaz_hub.specs.Waiting.{IsRight, IsSo, Remembered, RestAfter, RestBut, Rests, all_ahead, is_among, known_in, remembering, wanted_by, with_coming, with_judged, with_nothing_wanted, with_waiter}
+use Rattle.gaz_hub.specs.Waiting.{IsRight, IsSo, Remembered, RestAfter, RestBut, Rests, all_ahead, is_among, known_in, nobody_ahead, remembering, wanted_by, with_coming, with_judged, with_nothing_wanted, with_waiter}
 use Rattle.gaz_hub.specs.declared.looking.Next.TheVariants as next
 use Rattle.gaz_hub.proofs.Advancing.{Adds, IsNow, added_is}
 use Rattle.gaz_hub.proofs.Rounds.{stops_of_remembering}
@@ -40,7 +40,7 @@ rest_judged register a c x code volume rd m k adds met woke stood fine others re
     let now = met stood.0 fine in
     let w = with_judged m (code, reached a.content.board code + 1) in
     let same : k ≡ w = woke ∙ ap (λ v. with_judged m (code, v)) now.0 in
-    let un = unwoken m (code, reached a.content.board code + 1) d (ap (λ (y : Remembered). is_among y.0 d) (sym same) ∙ ahead) in
+    let un = unwoken m (code, reached a.content.board code + 1) d (ap (λ (y : Remembered). is_among y.ahead d) (sym same) ∙ ahead) in
     let was = rest d known un.before (ap (λ b. b || is_among others d) un.another ∙ among) in
     let is = rests_on (blocks_of register) a.content.files a.content.board code now.1.0 m d un was in
     let e : c.content ≡ with_judgement a.content code (judged_on (blocks_of register code) a.content.board code rd) = adds.done stood.0 now.1 fine in
@@ -57,7 +57,7 @@ rest_waiting register a b code whom volume m k looked noted stood fine others re
     let found = looked.right stood.0 fine in
     let same = looked.keeps.content stood.0 fine in
     let w = with_waiter m (whom, volume) code in
-    let unahead = ap (λ (y : Remembered). is_among y.0 d) (sym noted) ∙ ahead in
+    let unahead = ap (λ (y : Remembered). is_among y.ahead d) (sym noted) ∙ ahead in
     subst (λ (y : Remembered). Rests y b.content.files b.content.board d) (sym noted)
     (rests_in w a.content b.content d same
     (elim (eqb code d) as (λ t. eqb code d ≡ t → Rests w a.content.files a.content.board d) [
@@ -73,7 +73,7 @@ rest_waiting register a b code whom volume m k looked noted stood fine others re
   where
     waiting_at : Option (ℕ × ℕ) → List ℕ
     waiting_at None = []
-    waiting_at (Some q) = unwrap_or (finmap.get (with_waiter m (whom, volume) code).1.0 q) []
+    waiting_at (Some q) = unwrap_or (finmap.get (with_waiter m (whom, volume) code).waiting q) []
 
     itself : code ≡ d → IsNext a.content.files a.content.board code (next.Waits whom volume) → Rests (with_waiter m (whom, volume) code) a.content.files a.content.board d
     itself is found =
@@ -94,7 +94,7 @@ rest_done register a b code m k looked noted stood fine others rest d known ahea
     let found = looked.right stood.0 fine in
     let same = looked.keeps.content stood.0 fine in
     let w = with_nothing_wanted m code in
-    let unahead = ap (λ (y : Remembered). is_among y.0 d) (sym noted) ∙ ahead in
+    let unahead = ap (λ (y : Remembered). is_among y.ahead d) (sym noted) ∙ ahead in
     subst (λ (y : Remembered). Rests y b.content.files b.content.board d) (sym noted)
     (rests_in w a.content b.content d same
     (elim (eqb code d) as (λ t. eqb code d ≡ t → Rests w a.content.files a.content.board d) [
@@ -133,14 +133,14 @@ pub rest_all : (door : Door) (codes : List ℕ) (i : ℕ) (a b : Seen) (m k : Re
 rest_all door codes i a b m k past = subst (λ xs. RestAfter xs door m a k b) (take_all i codes past)
 
 -- all who were to be looked at are taken
-rest_taken : (door : Door) (m : Remembered) (codes : List ℕ) (taken k : Remembered) (a b : Seen) → codes ≡ m.0 → taken ≡ ([], m.1) → RestAfter codes door taken a k b → RestAfter [] door m a k b
+rest_taken : (door : Door) (m : Remembered) (codes : List ℕ) (taken k : Remembered) (a b : Seen) → codes ≡ m.ahead → taken ≡ nobody_ahead m → RestAfter codes door taken a k b → RestAfter [] door m a k b
 rest_taken door m codes taken k a b e f rest stood fine others was =
     rest stood fine others (λ c known ahead among.
     let no = in_neither codes others c among in
     let r = was c known (ap (λ xs. is_among xs c) (sym e) ∙ no.0) no.1 in
     subst (λ (w : Remembered). Rests w a.content.files a.content.board c) (sym f) (record { unready = r.unready; waits = r.waits; wanted = r.wanted }))
 
-pub rest_of_taken : {T : Type 0} (door : Door) (m : Remembered) (codes : List ℕ) (taken k : Remembered) (a b : Seen) (r : Result T ShelfFault) → codes ≡ m.0 → taken ≡ ([], m.1)
+pub rest_of_taken : {T : Type 0} (door : Door) (m : Remembered) (codes : List ℕ) (taken k : Remembered) (a b : Seen) (r : Result T ShelfFault) → codes ≡ m.ahead → taken ≡ nobody_ahead m
     → OnOk r (RestAfter codes door taken a k b) → OnOk r (RestAfter [] door m a k b)
 rest_of_taken door m codes taken k a b (Ok x) e f rest = rest_taken door m codes taken k a b e f rest
 rest_of_taken door m codes taken k a b (Err x) e f rest = tt
@@ -281,7 +281,7 @@ looks_called seen register Calls old new r P called looks =
 pub known_is_so : (register : RegisterValue) (w : Option Remembered) (k : Content) (c : ℕ) → knows register c ≡ true → IsRight register w k → IsSo k.files k.board c (known_in w c)
 known_is_so register None k c known right p is = let no : None ≡ Some p = is in cc
 known_is_so register (Some m) k c known right p is =
-    elim (is_among m.0 c) as (λ b. is_among m.0 c ≡ b → cond b None (wanted_by m c) ≡ Some p → wants k.files k.board c ≡ Some p) [
+    elim (is_among m.ahead c) as (λ b. is_among m.ahead c ≡ b → cond b None (wanted_by m c) ≡ Some p → wants k.files k.board c ≡ Some p) [
       | true ↦ λ t e. let no : None ≡ Some p = e in cc
       | false ↦ λ t e. sym (right c known t refl).wanted ∙ e
     ] refl is

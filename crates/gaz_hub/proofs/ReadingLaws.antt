@@ -7,14 +7,14 @@ use Rattle.gaz_keeper.specs.Board.{Board, reached}
 use Rattle.gaz_hub.specs.Readings.{EqualAnswers, ExtractsStay, OneHolder}
 use Rattle.gaz_hub.specs.Runs.{Run}
 use Rattle.gaz_hub.specs.Standing.{standing}
-use Rattle.gaz_hub.specs.Step.{Command, Door, HubState, Pose, Replied, Response, Step, answer_to, blocks}
+use Rattle.gaz_hub.specs.Step.{Command, Door, HubState, Pose, Replied, Response, Step, answer_to}
 use Rattle.gaz_register.specs.Registers.{owner_of_uprn}
 use Rattle.std.proofs.lemmas.Option.{same_Some}
 use Rattle.gaz_hub.proofs.ChainFine.{one_chain_holds}
 use Rattle.gaz_hub.proofs.Owners.{owners_alone_hold}
 use Rattle.gaz_hub.proofs.Orders.{Below, more_files_hold, view_stays}
 use Rattle.gaz_hub.proofs.Prefixes.{prefix_length}
-use Rattle.gaz_hub.proofs.Runs.{every_settled_run_holds, judgements_stay_holds, same_state}
+use Rattle.gaz_hub.proofs.Runs.{equal_received_holds, judgements_stay_holds}
 
 -- ---- equal received sets
 
@@ -28,12 +28,12 @@ last_step d old (c ∷ []) [] command response hub r = absurd r.2
 last_step d old (c ∷ (b ∷ commands)) [] command response hub r = absurd r.2
 
 pub equal_answers_hold : EqualAnswers
-equal_answers_hold d one other commands others responses replies q told heard r s same =
-    let first = last_step d _ commands responses (Pose q) (Replied q (Ok told)) one r in
-    let second = last_step d _ others replies (Pose q) (Replied q (Ok heard)) other s in
-    let alike : other ≡ one = same_state one other same
-    (every_settled_run_holds d others replies (Pose q) (Replied q (Ok heard)) other s refl ∙ ap (standing (blocks d)) same
-    ∙ sym (every_settled_run_holds d commands responses (Pose q) (Replied q (Ok told)) one r refl)) in
+equal_answers_hold d begun started one other commands others responses replies q told heard from_one from_other r s same =
+    let first = last_step d begun commands responses (Pose q) (Replied q (Ok told)) one r in
+    let second = last_step d started others replies (Pose q) (Replied q (Ok heard)) other s in
+    let alike : other ≡ one = equal_received_holds d one other
+    (record { old = begun; partial = from_one; commands = commands; responses = responses; command = Pose q; response = Replied q (Ok told); run = r; settles = refl })
+    (record { old = started; partial = from_other; commands = others; responses = replies; command = Pose q; response = Replied q (Ok heard); run = s; settles = refl }) same in
     second.1.1.answer ∙ ap (answer_to q d.register) alike ∙ sym first.1.1.answer
 
 -- ---- reached volumes

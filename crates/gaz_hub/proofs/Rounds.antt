@@ -30,7 +30,7 @@ nothing_ready d F B known rest c =
 
 -- a round that judged nothing, after which all rest, ends it
 pub settled_now : (register : RegisterValue) (m left : ℕ) (w v : Remembered) (a b c : Seen) (P : ℕ → Type 0) → Advances (door_of register) m a b → Tries (door_of register) left b c (Ok 0) P
-    → RestAfter [] (door_of register) w a v c → v.0 ≡ [] → Tells {T = Unit {0}} (door_of register) (remembering register (Some w) a) c (Ok tt) (λ _. ⊤)
+    → RestAfter [] (door_of register) w a v c → v.ahead ≡ [] → Tells {T = Unit {0}} (door_of register) (remembering register (Some w) a) c (Ok tt) (λ _. ⊤)
 settled_now register m left w v a b c P first second rest nobody =
     let d = door_of register in
     let l = advances_less d _ 0 a c (omega arith) (advances_then d m 0 a b c first second.advances) in

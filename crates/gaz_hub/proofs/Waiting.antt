@@ -96,49 +96,49 @@ itself : (p : ℕ × ℕ) → same_pair p p ≡ true
 itself p = (eq_by_cmp_equiv pairs_total).refl p
 
 -- who waits after one more does
-pub waiting_with : (m : Remembered) (p q : ℕ × ℕ) (a : ℕ) → waiting_for (with_waiter m p a) q ≡ unwrap_or (cond (same_pair q p) (Some (waiting_for m p ++ a ∷ [])) (finmap.get m.1.0 q)) []
-waiting_with m p q a = ap (λ o. unwrap_or o []) (finmap.get-insert pairs_total m.1.0 p (waiting_for m p ++ a ∷ []) q)
+pub waiting_with : (m : Remembered) (p q : ℕ × ℕ) (a : ℕ) → waiting_for (with_waiter m p a) q ≡ unwrap_or (cond (same_pair q p) (Some (waiting_for m p ++ a ∷ [])) (finmap.get m.waiting q)) []
+waiting_with m p q a = ap (λ o. unwrap_or o []) (finmap.get-insert pairs_total m.waiting p (waiting_for m p ++ a ∷ []) q)
 
 pub still_waits : (m : Remembered) (p q : ℕ × ℕ) (a c : ℕ) → is_among (waiting_for m q) c ≡ true → is_among (waiting_for (with_waiter m p a) q) c ≡ true
 still_waits m p q a c e =
     ap (λ xs. is_among xs c) (waiting_with m p q a)
-    ∙ elim (same_pair q p) as (λ b. same_pair q p ≡ b → is_among (unwrap_or (cond b (Some (waiting_for m p ++ a ∷ [])) (finmap.get m.1.0 q)) []) c ≡ true) [
+    ∙ elim (same_pair q p) as (λ b. same_pair q p ≡ b → is_among (unwrap_or (cond b (Some (waiting_for m p ++ a ∷ [])) (finmap.get m.waiting q)) []) c ≡ true) [
       | true ↦ λ t. in_joined (waiting_for m p) (a ∷ []) c (ap (λ r. is_among (waiting_for m r) c) (sym (pairs_same q p t)) ∙ e)
       | false ↦ λ _. e
     ] refl
 
 pub now_waits : (m : Remembered) (p : ℕ × ℕ) (a : ℕ) → is_among (waiting_for (with_waiter m p a) p) a ≡ true
 now_waits m p a =
-    ap (λ xs. is_among xs a) (waiting_with m p p a ∙ ap (λ b. unwrap_or (cond b (Some (waiting_for m p ++ a ∷ [])) (finmap.get m.1.0 p)) []) (itself p))
+    ap (λ xs. is_among xs a) (waiting_with m p p a ∙ ap (λ b. unwrap_or (cond b (Some (waiting_for m p ++ a ∷ [])) (finmap.get m.waiting p)) []) (itself p))
     ∙ in_pushed (waiting_for m p) a
 
 -- what it waits for is remembered, and of others what was
 pub now_wanted : (m : Remembered) (p : ℕ × ℕ) (a : ℕ) → wanted_by (with_waiter m p a) a ≡ Some p
 now_wanted m p a =
-    finmap.get-insert nat_cmp_total m.1.1 a p a
-    ∙ ap (λ b. cond b (Some p) (finmap.get m.1.1 a)) ((eq_by_cmp_equiv nat_cmp_total).refl a)
+    finmap.get-insert nat_cmp_total m.wanted a p a
+    ∙ ap (λ b. cond b (Some p) (finmap.get m.wanted a)) ((eq_by_cmp_equiv nat_cmp_total).refl a)
 
 pub still_wanted : (m : Remembered) (p : ℕ × ℕ) (a c : ℕ) → eqb a c ≡ false → wanted_by (with_waiter m p a) c ≡ wanted_by m c
 still_wanted m p a c e =
-    finmap.get-insert nat_cmp_total m.1.1 a p c
-    ∙ ap (λ b. cond b (Some p) (finmap.get m.1.1 c)) (naturals_apart a c e)
+    finmap.get-insert nat_cmp_total m.wanted a p c
+    ∙ ap (λ b. cond b (Some p) (finmap.get m.wanted c)) (naturals_apart a c e)
 
 -- a custodian that waits for nothing, and others
 pub nothing_wanted : (m : Remembered) (a : ℕ) → wanted_by (with_nothing_wanted m a) a ≡ None
 nothing_wanted m a =
-    finmap.get-remove nat_cmp_total m.1.1 a a
-    ∙ ap (λ b. cond b None (finmap.get m.1.1 a)) ((eq_by_cmp_equiv nat_cmp_total).refl a)
+    finmap.get-remove nat_cmp_total m.wanted a a
+    ∙ ap (λ b. cond b None (finmap.get m.wanted a)) ((eq_by_cmp_equiv nat_cmp_total).refl a)
 
 pub others_wanted : (m : Remembered) (a c : ℕ) → eqb a c ≡ false → wanted_by (with_nothing_wanted m a) c ≡ wanted_by m c
 others_wanted m a c e =
-    finmap.get-remove nat_cmp_total m.1.1 a c
-    ∙ ap (λ b. cond b None (finmap.get m.1.1 c)) (naturals_apart a c e)
+    finmap.get-remove nat_cmp_total m.wanted a c
+    ∙ ap (λ b. cond b None (finmap.get m.wanted c)) (naturals_apart a c e)
 
 -- those who wait for another volume than the judged one are the same
 pub others_wait : (m : Remembered) (p q : ℕ × ℕ) → same_pair q p ≡ false → waiting_for (with_judged m p) q ≡ waiting_for m q
 others_wait m p q e =
-    ap (λ o. unwrap_or o []) (finmap.get-remove pairs_total m.1.0 p q)
-    ∙ ap (λ b. unwrap_or (cond b None (finmap.get m.1.0 q)) []) e
+    ap (λ o. unwrap_or o []) (finmap.get-remove pairs_total m.waiting p q)
+    ∙ ap (λ b. unwrap_or (cond b None (finmap.get m.waiting q)) []) e
 
 -- what a tree map without a key is as a finite map
 pub taken_out : {K X : Type 0} {R : K → K → Ordering} → IsTotalOrder R → ((a b : K) → R a b ≡ Equal → a ≡ b) → (es fs : List (K × X)) (p : K)
@@ -167,13 +167,13 @@ put_back m p v = finmap.same_map pairs_total pairs_exact _ _ (λ q.
 
 -- who isn't ahead after a judgement wasn't before, is another than the judged one, and didn't wait
 pub record Unwoken (m : Remembered) (p : ℕ × ℕ) (c : ℕ) : Type 0 where
-  pub before : is_among m.0 c ≡ false
+  pub before : is_among m.ahead c ≡ false
   pub another : eqb p.0 c ≡ false
   pub waits_not : is_among (waiting_for m p) c ≡ false
 
-pub unwoken : (m : Remembered) (p : ℕ × ℕ) (c : ℕ) → is_among (with_judged m p).0 c ≡ false → Unwoken m p c
+pub unwoken : (m : Remembered) (p : ℕ × ℕ) (c : ℕ) → is_among (with_judged m p).ahead c ≡ false → Unwoken m p c
 unwoken m p c e =
-    let parts = in_neither m.0 (p.0 ∷ filter (λ x. not (eqb x p.0)) (waiting_for m p)) c e in
+    let parts = in_neither m.ahead (p.0 ∷ filter (λ x. not (eqb x p.0)) (waiting_for m p)) c e in
     let both = either_no _ _ parts.1 in
     record { before = parts.0; another = both.0; waits_not = in_others (waiting_for m p) p.0 c both.0 both.1 }
 
@@ -321,15 +321,15 @@ module _ (files : Received) (board : Board) (p : ℕ × ℕ) (bytes : List ℕ) 
       (finmap.get-insert pairs_total files p bytes (d, reached board d + 1) ∙ ap (λ b. cond b (Some bytes) (finmap.get files (d, reached board d + 1))) e)
 
   -- for another custodian, or as another volume than the next one
-  rests_apart : (m k : Remembered) (d : ℕ) → k.1 ≡ m.1 → same_pair (d, reached board d + 1) p ≡ false → Rests m files board d → Rests k bigger board d
-  rests_apart m k d same e rests =
+  rests_apart : (m k : Remembered) (d : ℕ) → k.waiting ≡ m.waiting → k.wanted ≡ m.wanted → same_pair (d, reached board d + 1) p ≡ false → Rests m files board d → Rests k bigger board d
+  rests_apart m k d waiting wanted e rests =
       record {
         unready = ap (λ n. nat_le (reached board d + 1) 999999 && option_map_or (λ r. are_reached board (bases_of r)) n false) (there_as d e) ∙ rests.unready;
         waits = λ q w.
-            ap (λ x. is_among (unwrap_or (finmap.get x.0 q) []) d) same
+            ap (λ x. is_among (unwrap_or (finmap.get x q) []) d) waiting
             ∙ rests.waits q (sym (ap (λ n. cond (nat_le (reached board d + 1) 999999) (wants_as board d n) None) (there_as d e)) ∙ w);
         wanted =
-            ap (λ x. finmap.get x.1 d) same ∙ rests.wanted
+            ap (λ x. finmap.get x d) wanted ∙ rests.wanted
             ∙ sym (ap (λ n. cond (nat_le (reached board d + 1) 999999) (wants_as board d n) None) (there_as d e));
       }
 
@@ -345,14 +345,14 @@ module _ (files : Received) (board : Board) (p : ℕ × ℕ) (bytes : List ℕ) 
       }
 
   -- whoever waited for the file is looked at
-  pub rests_with : (m : Remembered) (d : ℕ) → finmap.get files p ≡ None → is_among (with_coming m p).0 d ≡ false
-      → (is_among m.0 d ≡ false → Rests m files board d) → Rests (with_coming m p) bigger board d
+  pub rests_with : (m : Remembered) (d : ℕ) → finmap.get files p ≡ None → is_among (with_coming m p).ahead d ≡ false
+      → (is_among m.ahead d ≡ false → Rests m files board d) → Rests (with_coming m p) bigger board d
   rests_with m d free unahead rested =
       elim (is_among (waiting_for m p) p.0)
-      as (λ b. is_among (waiting_for m p) p.0 ≡ b → is_among (cond b (m.0 ++ p.0 ∷ [], m.1) m).0 d ≡ false → Rests (cond b (m.0 ++ p.0 ∷ [], m.1) m) bigger board d) [
+      as (λ b. is_among (waiting_for m p) p.0 ≡ b → is_among (cond b (record m { ahead = m.ahead ++ p.0 ∷ [] }) m).ahead d ≡ false → Rests (cond b (record m { ahead = m.ahead ++ p.0 ∷ [] }) m) bigger board d) [
         | true ↦ λ t e.
-            let no = in_neither m.0 (p.0 ∷ []) d e in
-            rests_apart m (m.0 ++ p.0 ∷ [], m.1) d refl (other d (either_no _ _ no.1).0) (rested no.0)
+            let no = in_neither m.ahead (p.0 ∷ []) d e in
+            rests_apart m (record m { ahead = m.ahead ++ p.0 ∷ [] }) d refl refl (other d (either_no _ _ no.1).0) (rested no.0)
         | false ↦ λ t e.
             let rests = rested e in
             elim (same_pair (d, reached board d + 1) p) as (λ x. same_pair (d, reached board d + 1) p ≡ x → Rests m bigger board d) [
@@ -362,7 +362,7 @@ module _ (files : Received) (board : Board) (p : ℕ × ℕ) (bytes : List ℕ) 
                     | true ↦ λ within. absurd (true≢false (sym (rests.waits p (waited d is within)) ∙ ap (λ x. is_among (waiting_for m p) x) (ap (λ (q : ℕ × ℕ). q.0) is) ∙ t))
                     | false ↦ λ past. rests_past m d past rests
                   ] refl
-              | false ↦ λ h. rests_apart m m d refl h rests
+              | false ↦ λ h. rests_apart m m d refl refl h rests
             ] refl
       ] refl unahead
     where

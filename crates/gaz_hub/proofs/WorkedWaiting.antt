@@ -62,20 +62,20 @@ worked_waiting_hold = record {
   not_for_the_next = none_for_the_next;
   woken = ap looked_at (two 1002 1003);
   woken_once = ap looked_at (two 1001 1002);
-  waits_no_more = ap (λ o. unwrap_or o []) (finmap.get-remove pairs_total two_wait.1.0 (1001, 1) (1001, 1));
+  waits_no_more = ap (λ o. unwrap_or o []) (finmap.get-remove pairs_total two_wait.waiting (1001, 1) (1001, 1));
   not_woken = ap looked_at none_for_the_next;
-  came = ap (λ xs. (cond (is_among xs 1003) (1003 ∷ [], waits_for_itself.1) waits_for_itself).0) itself_waits;
+  came = ap (λ xs. (cond (is_among xs 1003) (record waits_for_itself { ahead = 1003 ∷ [] }) waits_for_itself).ahead) itself_waits;
   wanted = still_wanted (with_waiter nobody (1001, 1) 1002) (1001, 1) 1003 1002 refl ∙ now_wanted nobody (1001, 1) 1002;
   wanted_later = now_wanted two_wait (1003, 2) 1002;
   wants_nothing = nothing_wanted two_wait 1002;
   known = now_wanted nobody (1003, 2) 1003;
-  not_known_ahead = ap (λ xs. known_in (Some (cond (is_among xs 1003) (1003 ∷ [], waits_for_itself.1) waits_for_itself)) 1003) itself_waits;
+  not_known_ahead = ap (λ xs. known_in (Some (cond (is_among xs 1003) (record waits_for_itself { ahead = 1003 ∷ [] }) waits_for_itself)) 1003) itself_waits;
   known_of_nothing = refl;
   is_so = λ p e. wanted_is ∙ e;
   never_so = λ so. let e : 2 ≡ 3 = ap volume_of (sym wanted_is ∙ so (1003, 3) refl) in cc;
   never_of_another = λ r. let e : 9 ≡ 2 = ap volume_of (sym (now_wanted waits_for_itself (1001, 9) 1003) ∙ r.wanted ∙ wanted_is) in cc;
-  came_too_early = ap (λ xs. (cond (is_among xs 1003) (1003 ∷ [], waits_for_itself.1) waits_for_itself).0) not_for_the_later;
-  came_for_others = ap (λ xs. (cond (is_among xs 1001) (1001 ∷ [], two_wait.1) two_wait).0) (two 1002 1003);
+  came_too_early = ap (λ xs. (cond (is_among xs 1003) (record waits_for_itself { ahead = 1003 ∷ [] }) waits_for_itself).ahead) not_for_the_later;
+  came_for_others = ap (λ xs. (cond (is_among xs 1001) (record two_wait { ahead = 1001 ∷ [] }) two_wait).ahead) (two 1002 1003);
   rests = record {
     unready = closed_sent 1003;
     waits = λ q w. subst (λ o. is_waiting o ≡ true) (sym wanted_is ∙ w) (now_waits nobody (1003, 2) 1003);

@@ -50,14 +50,14 @@ IsAgain files board c volume bytes (Some (Taken digest)) = IsTaken files c volum
 IsAgain files board c volume bytes (Some (New told)) = ⊥
 IsAgain files board c volume bytes (Some (Refused r)) = ⊥
 
--- it is no refusal of the door
+-- the answer is no refusal of the door
 abbrev pub IsPastDoor : Answer → Type 0
 IsPastDoor (New told) = ⊤
 IsPastDoor (Repeat told) = ⊤
 IsPastDoor (Taken digest) = ⊤
 IsPastDoor (Refused r) = IsSome (cause_in r)
 
--- it tells that the pair was received before
+-- the answer tells that the pair was received before
 abbrev pub IsOfBefore : Answer → Type 0
 IsOfBefore (New told) = ⊥
 IsOfBefore (Repeat told) = ⊤

@@ -1,11 +1,12 @@
 -- A hub over a keeper: what each of its calls tells.
-use Rattle.std.specs.Prelude.{◌≡◌, ◌≤◌, ◌<◌, ◌⊎◌, ℕ, ◌==◌, Bool, true, false, not, ◌&&◌, ◌||◌}
+use Rattle.std.specs.Prelude.{◌≡◌, ◌≤◌, ◌<◌, ◌⊎◌, ℕ, Bool, true, false, not, ◌&&◌}
 use Rattle.std.specs.Prelude.{IsSome, List, [], ◌∷◌}
 use Rattle.std.specs.Prelude.{Option, Some, None, Result, Ok, Err}
 use Rattle.std.specs.Global.{Vec}
 use Rattle.std.specs.Option.{option_and_then, option_map, option_map_or}
 use Rattle.std.specs.Result.{result_err}
 use Rattle.std.specs.FinMap as map
+use Rattle.gaz_changefile.specs.Lines.{is_known_profile}
 use Rattle.gaz_changefile.specs.Profile.{profile_of}
 use Rattle.gaz_register.specs.Registers.{RegisterValue, knows}
 use Rattle.gaz_extract.specs.declared.closed.Closed.{Closed}
@@ -25,14 +26,10 @@ use Rattle.gaz_hub.specs.declared.refusal.DoorRefusal.{DoorRefusal}
 use Rattle.gaz_hub.specs.declared.refusal.Refusal.{Refusal}
 use Rattle.gaz_hub.specs.declared.refusal.Refusal.TheVariants as refusal
 
--- the profiles whose files are taken in
-abbrev pub is_admitted_profile : ℕ → Bool
-is_admitted_profile profile = profile == 1 || profile == 2
-
--- 16: the file names a profile, and it isn't an admitted one
+-- 16: the file names a profile, and it isn't one that a reader of files knows
 abbrev pub is_foreign : List ℕ → Bool
 is_foreign bytes =
-    option_map_or (λ profile. not (is_admitted_profile profile)) (profile_of bytes) false
+    option_map_or (λ profile. not (is_known_profile profile)) (profile_of bytes) false
 
 -- the door of a hub with this register
 abbrev pub door_of : RegisterValue → Door
@@ -56,7 +53,8 @@ pub record MayHave (door : Door) (k : Content) : Type 0 where
 abbrev pub StandsFor : Door → Seen → Type 0
 StandsFor door s = s.stands × MayHave door s.content
 
--- it does unless somebody else wrote on what it keeps or a failure shut it
+-- the keeper stands for such a content, unless somebody else wrote on what it keeps or a failure
+-- shut it
 abbrev pub IsSoundFor : Door → Seen → Type 0
 IsSoundFor door s = s.unharmed → StandsFor door s
 
@@ -137,8 +135,8 @@ Reaches door hub command response = (after : HubState) × Step door hub command 
 abbrev pub ReachesAll : Door → HubState → List Command → List Response → Type 0
 ReachesAll door hub commands responses = (after : HubState) × Run door hub commands responses after
 
--- one call: where the keeper stood for a content before, and nobody else wrote on it nor did a
--- failure shut it, a step of the hub on that content
+-- one call: where the keeper stood before for a content that the hub may have, and nobody else
+-- wrote on it nor did a failure shut it, a step of the hub on that content
 pub record Steps (door : Door) (old new : Seen) (command : Command)
     (response : Response) : Type 0 where
   pub harm : new.unharmed → old.unharmed

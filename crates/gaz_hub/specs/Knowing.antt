@@ -12,17 +12,17 @@ abbrev pub Reading : Type 0 → Type 0 → Type 0 → Type 1
 Reading K T F =
     Once F (MutBor K × (Option (ℕ × ℕ) × Unit {0})) (Result T ShelfFault × (MutBor K × Unit {0}))
 
--- it may be made on a keeper, with this known
+-- the call may be made on a keeper, with this known
 abbrev pub TakesKnowing : {K T F : Type 0} → Reading K T F → F → K → Option (ℕ × ℕ) → Type 0
 TakesKnowing {K} g read k known = (p : MutBor K) → p.now ≡ k → g.pre read (p, (known, tt))
 
--- on each keeper in which no judgement is open, whatever is known
+-- the call may be made on each keeper in which no judgement is open, whatever is known
 abbrev pub TakesIdleKnowing : {K T F : Type 0} → (K → Seen) → Reading K T F → F → Type 0
 TakesIdleKnowing {K} seen g read =
     (mid : K) (known : Option (ℕ × ℕ)) → IsNotOpen (seen mid).progress
     → TakesKnowing g read mid known
 
--- on a keeper, with this known, it may tell r and leave the keeper so
+-- on a keeper, with this known, the call may tell r and leave the keeper so
 pub record ReturnsKnowing {K T F : Type 0} (g : Reading K T F) (read : F) (k : K)
     (known : Option (ℕ × ℕ)) (r : Result T ShelfFault) (after : K) : Type 0 where
   pub shown : MutBor K

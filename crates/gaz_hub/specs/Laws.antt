@@ -29,7 +29,7 @@ HasOutcome = (files : Received) (board : Board) (c volume : ℕ)
     → NothingReady files board → is_volume volume ≡ true → IsSome (map.get files (c, volume))
     → IsSome (outcome files board c volume)
 
--- so a hub that is asked for an outcome tells nothing only where nothing was received
+-- a hub that is asked for an outcome tells nothing only where nothing was received
 abbrev pub NothingOfNothing : Type 0
 NothingOfNothing = (door : Door) (old new : HubState) (c volume : ℕ)
     → Step door old (Pose (Ask c volume)) (Replied (Ask c volume) (Ok None)) new

@@ -16,7 +16,7 @@ use Rattle.gaz_hub.specs.Standing.{IsPartial, Register}
 abbrev pub HasAllowed : View → Type 0
 HasAllowed v = (k : Key) (i : Item) → map.get v.items k ≡ Some i → is_item i ≡ true
 
--- so is each item of each view of a partial board
+-- each item of each view of a partial board is such as the table of fields allows
 abbrev pub AllAllowed : Type 0
 AllAllowed = (register : Register) (files : Received) (board : Board)
     → IsPartial register files board → (c volume : ℕ) → HasAllowed (view_after board c volume)

@@ -9,17 +9,19 @@ use Rattle.gaz_views.specs.View.{holds}
 use Rattle.gaz_hub.specs.Runs.{Run}
 use Rattle.gaz_hub.specs.Standing.{HasAllOf, IsPartial, Register, standing}
 use Rattle.gaz_hub.specs.Step.{Command, Door, HubState, Pose, Replied, Response, Step, Told}
-use Rattle.gaz_hub.specs.Step.{new_hub}
+use Rattle.gaz_hub.specs.Step.{blocks}
 use Rattle.gaz_hub.specs.declared.question.Question.{Question}
 
--- whatever came before, and in whatever order: two hubs with equal received sets answer a question
--- equally, wherever both answer it
+-- whatever came before, in whatever order, and at whichever partial boards they began: two hubs
+-- with equal received sets answer a question equally, wherever both answer it
 abbrev pub EqualAnswers : Type 0
 EqualAnswers =
-    (door : Door) (one other : HubState) (commands others : List Command)
+    (door : Door) (begun started one other : HubState) (commands others : List Command)
     (responses replies : List Response) (q : Question) (told heard : Told q)
-    → Run door new_hub (commands ++ Pose q ∷ []) (responses ++ Replied q (Ok told) ∷ []) one
-    → Run door new_hub (others ++ Pose q ∷ []) (replies ++ Replied q (Ok heard) ∷ []) other
+    → IsPartial (blocks door) begun.received begun.board
+    → IsPartial (blocks door) started.received started.board
+    → Run door begun (commands ++ Pose q ∷ []) (responses ++ Replied q (Ok told) ∷ []) one
+    → Run door started (others ++ Pose q ∷ []) (replies ++ Replied q (Ok heard) ∷ []) other
     → other.received ≡ one.received → heard ≡ told
 
 -- the extract of a volume that is reached stays: with more files, and whatever is asked next

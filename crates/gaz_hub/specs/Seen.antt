@@ -26,12 +26,12 @@ hub_seen seen hub = kept_seen seen hub.register (hub.keeper, hub.waiters)
 abbrev pub RemembersNothing : {K : Type 0} → Hub K → Type 0
 RemembersNothing hub = hub.waiters ≡ None
 
--- it does after a fault, in a question that the door lets in
+-- a question that the door lets in and that ends in a refusal leaves a hub that remembers nothing
 abbrev pub ForgetsOver : {K T : Type 0} → Question → Result T Refusal → Hub K → Type 0
 ForgetsOver q reply hub =
     question_refusal (door_of hub.register) q ≡ None → OnErr reply (RemembersNothing hub)
 
--- and after one of the keeper in a file that the door lets in
+-- a file that the door lets in and at which the keeper failed leaves a hub that remembers nothing
 abbrev pub ForgetsTaking : {K : Type 0} → ℕ → ℕ → List ℕ → Answer → Hub K → Type 0
 ForgetsTaking c volume bytes answer hub =
     file_refusal (door_of hub.register) c volume bytes ≡ None

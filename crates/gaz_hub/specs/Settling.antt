@@ -54,7 +54,7 @@ IsReadAs board c volume bytes other =
 abbrev pub IsReadyAs : Received → Board → ℕ → Reading → Type 0
 IsReadyAs files board c r = (ready files board c ≡ true) × (next_reading files board c ≡ Some r)
 
--- it is ready and reads so, or it isn't and waits for this
+-- a custodian's next volume is ready and reads so, or it isn't and waits for this
 abbrev pub IsNext : Received → Board → ℕ → Next → Type 0
 IsNext files board c (next.Good volume contents) =
     (volume ≡ reached board c + 1) × IsReadyAs files board c (Good contents)
@@ -64,7 +64,7 @@ IsNext files board c (next.Waits whom volume) =
     (ready files board c ≡ false) × (wants files board c ≡ Some (whom, volume))
 IsNext files board c next.Done = (ready files board c ≡ false) × (wants files board c ≡ None)
 
--- what it waits for, if anything
+-- what a custodian's next volume waits for, if anything
 abbrev pub wanted_by : Next → Option (ℕ × ℕ)
 wanted_by (next.Waits whom volume) = Some (whom, volume)
 wanted_by (next.Good volume contents) = None
@@ -133,7 +133,7 @@ pub record Tells {T : Type 0} (door : Door) (old new : Seen) (result : Result T 
 
 -- ---- settling and then a call
 
--- it may be made on each keeper in which no judgement is open
+-- a call may be made on each keeper in which no judgement is open
 abbrev pub TakesIdle : {K : Type 0} → (K → Seen) → (K → Type 0) → Type 0
 TakesIdle {K} seen Takes = (mid : K) → IsNotOpen (seen mid).progress → Takes mid
 

@@ -52,7 +52,8 @@ abbrev pub rounds : Register → Received → ℕ → Board → Board
 rounds register files zero board = board
 rounds register files (suc n) board = round register files (rounds register files n board)
 
--- as many rounds as there are files
+-- the board on which nothing is ready any more: as many rounds as there are files, from an empty
+-- one
 unfoldable pub standing : Register → Received → Board
 standing register files = rounds register files (map.len files) empty_board
 

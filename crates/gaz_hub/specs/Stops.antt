@@ -21,7 +21,8 @@ pub record IsLater (door : Door) (hub : HubState) (k : Content) : Type 0 where
   pub files : k.files ≡ hub.received
   pub board : Follows (blocks door) hub.received hub.board k.board
 
--- the same with one file more, which the door lets in and whose place was free
+-- no judgement in progress, the files of this hub with one more that the door lets in and whose
+-- place was free, and its board or one that follows it
 pub record IsLaterWith (door : Door) (hub : HubState) (c volume : ℕ) (bytes : List ℕ) (k : Content)
     : Type 0 where
   pub let_in : file_refusal door c volume bytes ≡ None

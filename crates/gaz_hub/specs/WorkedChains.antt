@@ -1,10 +1,11 @@
 -- Worked examples of what becomes of a number in files, and of who is asked for it.
-use Rattle.std.specs.Prelude.{◌≡◌, ◌==◌, [], ◌∷◌, Some, None, if◌then◌else◌}
+use Rattle.std.specs.Prelude.{◌≡◌, ◌==◌, [], ◌∷◌, ◌++◌, Some, None, if◌then◌else◌}
 use Rattle.gaz_changefile.specs.Reading.{Bad}
 use Rattle.gaz_changefile.specs.declared.change.Change.{Change}
 use Rattle.gaz_changefile.specs.declared.action.Action.TheVariants.{Insert}
 use Rattle.gaz_extract.specs.Examples.{property}
 use Rattle.gaz_keeper.specs.Board.{Board, Judgement}
+use Rattle.gaz_keeper.specs.Received.{Received}
 use Rattle.gaz_records.specs.declared.item.Item.{Item}
 use Rattle.gaz_records.specs.declared.item.Item.TheVariants as item
 use Rattle.gaz_rules.specs.Examples.{file_of}
@@ -12,7 +13,7 @@ use Rattle.gaz_views.specs.View.{empty_view, with_adoption, with_release}
 use Rattle.gaz_views.specs.declared.custody.Custody.TheVariants.{Adopted, Released}
 use Rattle.gaz_views.specs.declared.verdict.Verdict.TheVariants.{Applied, Rejected}
 use Rattle.gaz_rules.specs.Passing.{made_of}
-use Rattle.gaz_hub.specs.Became.{made_in}
+use Rattle.gaz_hub.specs.Became.{became, made_in, reading_at}
 use Rattle.gaz_hub.specs.Owners.{holder_from}
 
 abbrev pub release : Item
@@ -37,6 +38,11 @@ offered = λ c. if c == 1001 then released ∷ [] else []
 abbrev pub gone_over : Board
 gone_over = λ c. if c == 1001 then released ∷ [] else (if c == 1002 then adopted ∷ [] else [])
 
+-- 1001 has a rejected file, and behind it one that was applied
+abbrev pub second_applied : Board
+second_applied = λ c. if c == 1001
+    then record { verdict = Rejected 2 20; view = empty_view } ∷ released ∷ [] else []
+
 pub record WorkedChains : Type 0 where
   pub of_a_release : made_of 42 release ≡ Some (Released 1002 1)
   pub of_another_number : made_of 43 release ≡ None
@@ -47,6 +53,11 @@ pub record WorkedChains : Type 0 where
   pub in_a_rejected_file : made_in 42 (Some (file_of (change release ∷ []))) (Rejected 2 20) ≡ []
   pub in_a_bad_file : made_in 42 (Some (Bad 2 6)) (Rejected 2 6) ≡ []
   pub in_no_file : made_in 42 None Applied ≡ []
+  -- each judgement is of the file of its own volume, from 1 on
+  pub volume_by_volume : (files : Received) → became files second_applied 42 1001
+      ≡ made_in 42 (reading_at files 1001 1) (Rejected 2 20)
+      ++ (made_in 42 (reading_at files 1001 2) Applied ++ [])
+  pub of_another_custodian : (files : Received) → became files second_applied 42 1002 ≡ []
   pub nothing_became : holder_from (λ c. []) 42 1001 ≡ Some 1001
   pub while_offered : holder_from offered 42 1001 ≡ None
   pub once_adopted : holder_from gone_over 42 1001 ≡ Some 1002

@@ -10,7 +10,7 @@ use Rattle.gaz_hub.specs.WorkedHubs.{upper_and_lower}
 
 -- nobody is to be looked at, and nobody waits
 abbrev pub nobody : Remembered
-nobody = ([], (map.empty, map.empty))
+nobody = record { ahead = []; waiting = map.empty; wanted = map.empty }
 
 -- custodian 1003 waits for its own volume 2, and 1002 for volume 1 of 1001 before 1003 does
 abbrev pub waits_for_itself : Remembered
@@ -24,20 +24,20 @@ abbrev pub both_wait : Remembered
 both_wait = with_waiter (with_waiter nobody (1001, 1) 1001) (1001, 1) 1002
 
 pub record WorkedWaiting : Type 0 where
-  pub all_at_first : (all_ahead upper_and_lower).0 ≡ 1001 ∷ 1002 ∷ []
+  pub all_at_first : (all_ahead upper_and_lower).ahead ≡ 1001 ∷ 1002 ∷ []
   pub one_is_among : is_among (1001 ∷ 1002 ∷ []) 1002 ≡ true
   pub none_is_among : is_among (1001 ∷ 1002 ∷ []) 1003 ≡ false
   pub in_turn : waiting_for two_wait (1001, 1) ≡ 1002 ∷ 1003 ∷ []
   pub not_for_the_next : waiting_for two_wait (1001, 2) ≡ []
   -- the judged custodian and who waited are looked at, each once, and nobody waits any more
-  pub woken : (with_judged two_wait (1001, 1)).0 ≡ 1001 ∷ 1002 ∷ 1003 ∷ []
-  pub woken_once : (with_judged both_wait (1001, 1)).0 ≡ 1001 ∷ 1002 ∷ []
+  pub woken : (with_judged two_wait (1001, 1)).ahead ≡ 1001 ∷ 1002 ∷ 1003 ∷ []
+  pub woken_once : (with_judged both_wait (1001, 1)).ahead ≡ 1001 ∷ 1002 ∷ []
   pub waits_no_more : waiting_for (with_judged two_wait (1001, 1)) (1001, 1) ≡ []
-  pub not_woken : (with_judged two_wait (1001, 2)).0 ≡ 1001 ∷ []
+  pub not_woken : (with_judged two_wait (1001, 2)).ahead ≡ 1001 ∷ []
   -- a file that came is looked at where it was waited for by its own custodian
-  pub came : (with_coming waits_for_itself (1003, 2)).0 ≡ 1003 ∷ []
-  pub came_too_early : (with_coming waits_for_itself (1003, 3)).0 ≡ []
-  pub came_for_others : (with_coming two_wait (1001, 1)).0 ≡ []
+  pub came : (with_coming waits_for_itself (1003, 2)).ahead ≡ 1003 ∷ []
+  pub came_too_early : (with_coming waits_for_itself (1003, 3)).ahead ≡ []
+  pub came_for_others : (with_coming two_wait (1001, 1)).ahead ≡ []
   -- what each waits for is known, but of who is to be looked at, or waits for nothing
   pub wanted : wanted_by two_wait 1002 ≡ Some (1001, 1)
   pub wanted_later : wanted_by (with_waiter two_wait (1003, 2) 1002) 1002 ≡ Some (1003, 2)

@@ -1,22 +1,14 @@
 //! What the door turns away before the keeper is called.
 ghost use Rattle.std.specs.Prelude.{◌≡◌, IfOk, IfErr, Some, None, true, false};
 ghost use Rattle.gaz_register.specs.Registers.{knows};
-ghost use Rattle.gaz_hub.specs.Hubs.{door_of, is_admitted_profile, is_foreign};
+ghost use Rattle.gaz_hub.specs.Hubs.{door_of, is_foreign};
 ghost use Rattle.gaz_hub.specs.Step.{turned_away};
 
 use crate::refusal::DoorRefusal;
-use gaz_changefile::profile_of;
+use gaz_changefile::{is_known_profile, profile_of};
 use gaz_ids::{Code, MOST_BYTES, Volume};
 use gaz_register::Register;
 use std::alloc::{AllocError, Global};
-
-// Whether the hub takes in files of a profile: of 1, and of 2, in whose files numbers pass on (our
-// profile).
-fn is_admitted_profile(profile: u64) -> bool
-    ensures { result ≡ is_admitted_profile profile }
-{
-    profile == 1 || profile == 2
-}
 
 /// The code, where the register has it.
 pub fn known_code(register: &Register, code: u64) -> Result<Code, DoorRefusal>
@@ -52,14 +44,14 @@ pub fn at_door(
     Ok((code, volume))
 }
 
-/// Whether the file names a profile that isn't an admitted one.
+/// Whether the file names a profile that no reader of files knows.
 /// A reader of CSV takes 32 KiB of the stack, which no other request should touch.
 #[inline(never)]
 pub fn names_unknown_profile(alloc: Global, file: &[u8]) -> Result<bool, AllocError>
     ensures { IfOk result (λ foreign. foreign ≡ is_foreign file.now) }
 {
     match profile_of(alloc, file)? {
-        Some(profile) => Ok(!is_admitted_profile(profile)),
+        Some(profile) => Ok(!is_known_profile(profile)),
         None => Ok(false),
     }
 }

@@ -15,9 +15,9 @@ use std::alloc::Global;
 /// A hub of the custodians of a register, which keeps files and board in a keeper.
 ///
 /// Each call that the door lets in settles first: it judges what is ready, until nothing is. What a
-/// call does is said of the content of the keeper, where it stands for one, and nobody else wrote
-/// on it nor did a failure shut it up to the call's end. Whom the door refuses, and by what, is said
-/// whatever the keeper stands for; the keeper isn't called then.
+/// call does is said of the content of the keeper, where it stands for one that the hub may have,
+/// and nobody else wrote on it nor did a failure shut it up to the call's end. Whom the door
+/// refuses, and by what, is said whatever the keeper stands for; the keeper isn't called then.
 ///
 /// What each custodian's next volume waits for is remembered from one call to the next, so that
 /// nobody is looked at in vain. A fault, and want of memory for it, lets the hub forget; the next

@@ -14,19 +14,6 @@ ghost use Rattle.gaz_hub.specs.Runs.{EqualReceived, EveryRepeat, EveryRun, Every
 ghost use Rattle.gaz_hub.specs.Runs.{EverySettledRun, EverySettledRunFrom, JudgementsStay};
 ghost use Rattle.gaz_hub.specs.Seen.{hub_seen};
 ghost use Rattle.gaz_hub.specs.Standing.{AnyOrder, MoreFiles, StandingIsSettled};
-ghost use Rattle.gaz_hub.specs.WorkedAnswers.{WorkedAnswers};
-ghost use Rattle.gaz_hub.specs.WorkedBases.{WorkedBases};
-ghost use Rattle.gaz_hub.specs.WorkedBoards.{WorkedBoards};
-ghost use Rattle.gaz_hub.specs.WorkedChains.{WorkedChains};
-ghost use Rattle.gaz_hub.specs.WorkedFound.{WorkedFound};
-ghost use Rattle.gaz_hub.specs.WorkedGrowth.{WorkedGrowth};
-ghost use Rattle.gaz_hub.specs.WorkedHubs.{WorkedHubs};
-ghost use Rattle.gaz_hub.specs.WorkedStops.{WorkedStops};
-ghost use Rattle.gaz_hub.specs.WorkedWaiting.{WorkedWaiting};
-ghost use Rattle.gaz_hub.specs.WorkedOwners.{WorkedOwners};
-ghost use Rattle.gaz_hub.specs.WorkedReadings.{WorkedReadings};
-ghost use Rattle.gaz_hub.specs.WorkedRuns.{WorkedRuns};
-ghost use Rattle.gaz_hub.specs.WorkedSteps.{WorkedSteps};
 
 use gaz_keeper::Inbox;
 
@@ -103,7 +90,8 @@ pub fn growth_stands<K: Inbox + Drop>()
     ensures { GrowthStands K.seen }
 {}
 
-/// Under a register that grew whoever was let in is let in, and whoever asks is answered the same.
+/// Under a register that grew whoever was let in is let in, and of files of custodians that were
+/// known before whoever asks is answered the same.
 pub fn growth_answers()
     ensures { AnswersStay }
 {}
@@ -126,8 +114,8 @@ pub fn each_is_told()
     ensures { EachIsTold }
 {}
 
-/// Two hubs that received the same give the same answer to each question, whatever came and in
-/// whatever order.
+/// Two hubs that began at any partial boards and received the same give the same answer to each
+/// question that both answer, whatever came and in whatever order.
 pub fn equal_answers()
     ensures { EqualAnswers }
 {}
@@ -174,7 +162,7 @@ pub fn chains_are_short()
     ensures { ChainsAreShort }
 {}
 
-/// What is in nobody's blocks is never released, adopted or held.
+/// On every partial board what is in nobody's blocks was never released, adopted or held.
 pub fn unallotted_stay()
     ensures { UnallottedStay }
 {}
@@ -233,70 +221,4 @@ pub fn every_run_over<K: Inbox + Drop>()
 pub fn every_settled_run_over<K: Inbox + Drop>()
     ensures keeper { EverySettledRunOver K.seen }
     ensures hub { EverySettledRunOver (hub_seen K.seen) }
-{}
-
-/// What was received, who is ready, and which boards come next, on worked examples.
-pub fn worked_boards()
-    ensures { WorkedBoards }
-{}
-
-/// A file that is applied and one that rests on it, on worked examples.
-pub fn worked_bases()
-    ensures { WorkedBases }
-{}
-
-/// What judging comes to and what custodians are told, on worked examples.
-pub fn worked_answers()
-    ensures { WorkedAnswers }
-{}
-
-/// Which steps a hub may take, and which it may not, on worked examples.
-pub fn worked_steps()
-    ensures { WorkedSteps }
-{}
-
-/// Which runs a hub may go through, and what holds after them, on worked examples.
-pub fn worked_runs()
-    ensures { WorkedRuns }
-{}
-
-/// What is looked up, extracted and listed, and what isn't, on worked examples.
-pub fn worked_readings()
-    ensures { WorkedReadings }
-{}
-
-/// Who can have a property, and which content a hub may have, on worked examples.
-pub fn worked_owners()
-    ensures { WorkedOwners }
-{}
-
-/// What becomes of a number in files, and who is asked for it, on worked examples.
-pub fn worked_chains()
-    ensures { WorkedChains }
-{}
-
-/// The door and the blocks of a hub over a register, on worked examples.
-pub fn worked_hubs()
-    ensures { WorkedHubs }
-{}
-
-/// What the definitions on a register that grows come to on worked examples.
-pub fn worked_growth()
-    ensures { WorkedGrowth }
-{}
-
-/// Who is remembered to wait for what, and when that is right, on worked examples.
-pub fn worked_waiting()
-    ensures { WorkedWaiting }
-{}
-
-/// What a stop may leave of a hub, and what it may not, on worked examples.
-pub fn worked_stops()
-    ensures { WorkedStops }
-{}
-
-/// What a call, or calls one after another, leave of a keeper that is stopped, and what is found
-/// then, on worked examples, whatever else is so of the keeper.
-pub fn worked_found<K: Inbox + Drop>()
-    ensures { WorkedFound K.seen }
 {}

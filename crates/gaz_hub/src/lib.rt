@@ -21,6 +21,7 @@ mod settling;
 mod standing;
 mod submitting;
 mod waiters;
+pub mod worked;
 
 pub use answer::{Answer, Digest};
 pub use closed_list::ClosedList;

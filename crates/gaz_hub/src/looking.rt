@@ -1,5 +1,5 @@
 //! What a custodian's next volume is, and what it waits for.
-ghost use Rattle.std.specs.Prelude.{◌≡◌, ◌≤◌, ◌+◌};
+ghost use Rattle.std.specs.Prelude.{◌≡◌, ◌+◌};
 ghost use Rattle.gaz_changefile.specs.Reading.{Bad, Good};
 ghost use Rattle.gaz_keeper.specs.Board.{reached};
 ghost use Rattle.gaz_hub.specs.Settling.{IsNext, IsNextFile, IsReadAs, IsWeighed, wanted_by};

@@ -19,7 +19,7 @@ use gaz_keeper::{Inbox, ShelfFault};
 
 // What is told of each answer: none where what is asked for isn't there, and of settling.
 impl Told {
-    // Of the outcome of a volume.
+    // What is told of the outcome of a volume.
     fn of_outcome(
         outcome: Result<Option<(FileDigest, Outcome)>, Refusal>,
     ) -> Result<Option<Told>, Refusal>
@@ -35,27 +35,22 @@ impl Told {
         }
     }
 
-    // Of a custodian's standing.
+    // What is told of a custodian's standing.
     fn of_standing(standing: Result<Standing, Refusal>) -> Result<Option<Told>, Refusal>
         ensures { (code : ℕ) → result ≡ telling (Stand code) standing }
     {
-        match standing {
-            Ok(standing) => Ok(Some(Told::Standing(standing))),
-            Err(refusal) => Err(refusal),
-        }
+        Ok(Some(Told::Standing(standing?)))
     }
 
-    // Of settling.
+    // What is told of settling.
     fn of_settling(settled: Result<(), ShelfFault>) -> Result<Option<Told>, Refusal>
         ensures { result ≡ telling Settle (or_not_received settled) }
     {
-        match settled {
-            Ok(()) => Ok(None),
-            Err(fault) => Err(Refusal::NotReceived(fault)),
-        }
+        settled.map_err(Refusal::NotReceived)?;
+        Ok(None)
     }
 
-    // Of where a property stands.
+    // What is told of where a property stands.
     fn of_property(found: Result<Option<Found>, Refusal>) -> Result<Option<Told>, Refusal>
         ensures { (uprn : ℕ) → result ≡ telling (LookUp uprn) found }
     {
@@ -66,7 +61,7 @@ impl Told {
         }
     }
 
-    // Of an extract.
+    // What is told of an extract.
     fn of_extract(extract: Result<Option<Vec<u8>>, Refusal>) -> Result<Option<Told>, Refusal>
         ensures { (code volume : ℕ) → result ≡ telling (Extract code volume) (told extract) }
     {
@@ -77,14 +72,12 @@ impl Told {
         }
     }
 
-    // Of addresses on closed streets.
+    // What is told of addresses on closed streets.
     fn of_closed(closed: Result<Vec<Closed>, Refusal>) -> Result<Option<Told>, Refusal>
         ensures { result ≡ telling ListClosed (told_all closed) }
     {
-        match closed {
-            Ok(closed) => Ok(Some(Told::Closed(ClosedList { closed }))),
-            Err(refusal) => Err(refusal),
-        }
+        let closed = closed?;
+        Ok(Some(Told::Closed(ClosedList { closed })))
     }
 }
 

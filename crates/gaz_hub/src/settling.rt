@@ -39,7 +39,7 @@ fn judge_next<K: Inbox>(
         (λ c. c ≡ code) }
     ensures rest { OnOk result (RestAfter (code ∷ []) (door_of register.now)
         waiters.old (K.seen keeper.old) waiters.new (K.seen keeper.new)) }
-    ensures ahead { IfOk result (λ n. n ≡ 0 → waiters.new.0 ≡ waiters.old.0) }
+    ensures ahead { IfOk result (λ n. n ≡ 0 → waiters.new.ahead ≡ waiters.old.ahead) }
 {
     let next = look(alloc, keeper, code)?;
     match &next {
@@ -85,7 +85,7 @@ fn judge_each<K: Inbox>(
         (λ c. ⊥) }
     ensures rest { OnOk result (RestAfter codes.now (door_of register.now)
         waiters.old (K.seen keeper.old) waiters.new (K.seen keeper.new)) }
-    ensures ahead { IfOk result (λ n. n ≡ 0 → waiters.new.0 ≡ waiters.old.0) }
+    ensures ahead { IfOk result (λ n. n ≡ 0 → waiters.new.ahead ≡ waiters.old.ahead) }
 {
     let mut judged = 0;
     for code in codes {
@@ -108,7 +108,7 @@ fn settle_round<K: Inbox>(
         (λ c. ⊥) }
     ensures rest { OnOk result (RestAfter [] (door_of register.now)
         waiters.old (K.seen keeper.old) waiters.new (K.seen keeper.new)) }
-    ensures ahead { IfOk result (λ n. n ≡ 0 → waiters.new.0 ≡ []) }
+    ensures ahead { IfOk result (λ n. n ≡ 0 → waiters.new.ahead ≡ []) }
 {
     let codes = waiters.take_ahead();
     judge_each(alloc, register, keeper, waiters, codes.as_slice(), left)

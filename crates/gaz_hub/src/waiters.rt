@@ -1,8 +1,8 @@
 //! Who waits for which volume.
 ghost use Rattle.std.specs.Prelude.{◌≡◌, ◌++◌, ◌==◌, ◌∷◌, [], not, filter, map, IfOk, OnOk, Some};
-ghost use Rattle.gaz_hub.specs.Waiting.{all_ahead, is_among, known_in, waiting_for, with_coming};
-ghost use Rattle.gaz_hub.specs.Waiting.{with_judged, with_nothing_wanted, with_waiter};
-ghost use Rattle.gaz_hub.specs.Waiting.{without_waiters};
+ghost use Rattle.gaz_hub.specs.Waiting.{all_ahead, is_among, known_in, nobody_ahead, waiting_for};
+ghost use Rattle.gaz_hub.specs.Waiting.{with_coming, with_judged, with_nothing_wanted};
+ghost use Rattle.gaz_hub.specs.Waiting.{with_waiter, without_waiters};
 
 use gaz_ids::{Code, Volume};
 use gaz_register::{Custodian, Register};
@@ -26,7 +26,7 @@ impl Model for Codes {
 }
 
 impl Codes {
-    // None.
+    // No codes.
     fn new(alloc: Global) -> Codes
         ensures { result ≡ [] }
     {
@@ -41,7 +41,7 @@ impl Codes {
         self.codes.as_slice()
     }
 
-    // One more.
+    // Adds a code behind the others.
     fn push(&mut self, code: Code) -> Result<(), AllocError>
         ensures { OnOk result (self.new ≡ self.old ++ code ∷ []) }
     {
@@ -65,19 +65,18 @@ pub struct Waiters {
 
 impl Model for Waiters {
     ghost use Rattle.std.specs.FinMap as map;
-    ghost use Rattle.std.specs.Coded.{coded_list, coded_ℕ, coded×};
+    ghost use Rattle.gaz_hub.specs.WaitingCode.{remembered_code};
     ghost use Rattle.gaz_hub.specs.Waiting.{Remembered};
 
     ghost Value = { Remembered };
 
-    ghost coded = { coded× (coded_list coded_ℕ) (coded×
-        (map.code (coded× coded_ℕ coded_ℕ) (coded_list coded_ℕ))
-        (map.code coded_ℕ (coded× coded_ℕ coded_ℕ))) };
+    ghost coded = { remembered_code };
 
-    ghost view = { λ w. (
-      w.ahead.items,
-      (map.from_entries w.by_volume.entries, map.from_entries w.wanted.entries),
-    ) };
+    ghost view = { λ w. record {
+      ahead = w.ahead.items;
+      waiting = map.from_entries w.by_volume.entries;
+      wanted = map.from_entries w.wanted.entries;
+    } };
 }
 
 impl Waiters {
@@ -95,8 +94,8 @@ impl Waiters {
 
     /// Those who are to be looked at; afterwards nobody is.
     pub fn take_ahead(&mut self) -> Vec<Code>
-        ensures taken { result.items ≡ self.old.0 }
-        ensures left { self.new ≡ ([], self.old.1) }
+        ensures taken { result.items ≡ self.old.ahead }
+        ensures left { self.new ≡ nobody_ahead self.old }
     {
         replace(&mut self.ahead, Vec::new(self.alloc))
     }

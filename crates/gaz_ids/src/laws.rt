@@ -22,7 +22,7 @@ pub fn limits()
     ensures most_bytes { MOST_BYTES ≡ most_bytes }
 {}
 
-/// A hop is read from at most four digits, from 1 on.
+/// A hop is read from at most four digits: 1 to 9,999.
 pub fn hop_of(text: &[u8]) -> Result<Hop, IdFault>
     ensures { result ≡ read_id 4 1 9999 text.now }
 {

@@ -1,4 +1,4 @@
-ghost use Rattle.std.specs.Prelude.{◌≡◌, ◌≤◌, ◌<◌, ◌^◌, Some, decimal, ℕ};
+ghost use Rattle.std.specs.Prelude.{◌≡◌, ◌≤◌, ◌<◌, Some, decimal, ℕ};
 ghost use Rattle.gaz_ids.specs.Numbers.{of_id, read_id};
 
 use crate::digits::{are_digits, value_of};

@@ -1,3 +1,4 @@
 pub mod Examples
 pub mod Keeping
 pub mod Pairs
+pub mod WorkedCalls

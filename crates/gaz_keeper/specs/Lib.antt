@@ -3,3 +3,4 @@ pub mod Received
 pub mod Keeper
 pub mod Telling
 pub mod Examples
+pub mod WorkedCalls

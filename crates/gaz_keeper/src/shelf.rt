@@ -23,8 +23,8 @@ use gaz_views::{Custody, Property, Verdict};
 /// A keeper: it keeps each custodian's views and verdicts, and at most one judgement in progress.
 ///
 /// Every call may answer a fault: `Memory`, or `Store`, which is counted. What is said of the
-/// content is said where the keeper stood for one before the call and nobody else wrote on it up to
-/// the call's end.
+/// content is said where the keeper stood for one before the call, and nobody else wrote on it nor
+/// did a failure shut it up to the call's end.
 pub trait Shelf {
     /// What is there at a moment.
     ghost seen: { Self → Seen };

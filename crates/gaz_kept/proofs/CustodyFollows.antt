@@ -5,6 +5,7 @@ use Rattle.std.proofs.lemmas.Bool.Decides.{nat_tests}
 use Rattle.std.proofs.lemmas.Int.Digits.{digits_value_push}
 use Rattle.std.proofs.lemmas.List.{length-append}
 use Rattle.std.specs.Prelude.{Option, Some, None, Ok, Err, option_map}
+use Rattle.std.specs.Result.{result_ok}
 use Rattle.std.specs.Char.{digit_value, is_ascii_digit}
 use Rattle.std.specs.Str.{all_ascii_digits}
 use Rattle.std.specs.Str.Parse.{digits_value}
@@ -14,7 +15,6 @@ use Rattle.gaz_ids.proofs.Numerals.{digit_is}
 use Rattle.gaz_ids.specs.Numbers.{in_range, of_id, read_id}
 use Rattle.gaz_ids.specs.declared.fault.IdFault.TheVariants.{Empty, NotDigits, OutOfRange, TooLong}
 use Rattle.gaz_records.specs.Blpus.{is_uprn}
-use Rattle.gaz_records.specs.Fields.{ok_of}
 use Rattle.gaz_views.specs.Custody.{hop_in}
 use Rattle.gaz_views.specs.declared.custody.Custody.{Custody}
 use Rattle.gaz_views.specs.declared.custody.Custody.TheVariants.{Adopted, Released}
@@ -83,32 +83,32 @@ record Reads (text : List ℕ) (n : ℕ) : Type 0 where
   range : in_range 1 999_999_999_999 n ≡ true
   value : digits_value 10 text ≡ n
 
-reads : (text : List ℕ) (n : ℕ) → ok_of (read_id 12 1 999_999_999_999 text) ≡ Some n → Reads text n
+reads : (text : List ℕ) (n : ℕ) → result_ok (read_id 12 1 999_999_999_999 text) ≡ Some n → Reads text n
 unfolding read_id
 reads text n is = by_empty (length text == 0) is
   where
-    by_range : all_ascii_digits text ≡ true → (b : Bool) → in_range 1 999_999_999_999 (digits_value 10 text) ≡ b → ok_of (cond (not b) (Err OutOfRange) (Ok (digits_value 10 text))) ≡ Some n → Reads text n
+    by_range : all_ascii_digits text ≡ true → (b : Bool) → in_range 1 999_999_999_999 (digits_value 10 text) ≡ b → result_ok (cond (not b) (Err OutOfRange) (Ok (digits_value 10 text))) ≡ Some n → Reads text n
     by_range all true range e =
         let same : digits_value 10 text ≡ n = cc in
         record { all = all; range = subst (λ m. in_range 1 999_999_999_999 m ≡ true) same range; value = same }
     by_range all false range e = no_answer e refl
 
-    by_width : all_ascii_digits text ≡ true → (b : Bool) → ok_of (cond b (Err TooLong) (cond (not (in_range 1 999_999_999_999 (digits_value 10 text))) (Err OutOfRange) (Ok (digits_value 10 text)))) ≡ Some n → Reads text n
+    by_width : all_ascii_digits text ≡ true → (b : Bool) → result_ok (cond b (Err TooLong) (cond (not (in_range 1 999_999_999_999 (digits_value 10 text))) (Err OutOfRange) (Ok (digits_value 10 text)))) ≡ Some n → Reads text n
     by_width all true e = no_answer e refl
     by_width all false e = by_range all (in_range 1 999_999_999_999 (digits_value 10 text)) refl e
 
-    by_digits : (b : Bool) → all_ascii_digits text ≡ b → ok_of (cond (not b) (Err NotDigits) (cond (nat_lt 12 (length text)) (Err TooLong) (cond (not (in_range 1 999_999_999_999 (digits_value 10 text))) (Err OutOfRange) (Ok (digits_value 10 text))))) ≡ Some n → Reads text n
+    by_digits : (b : Bool) → all_ascii_digits text ≡ b → result_ok (cond (not b) (Err NotDigits) (cond (nat_lt 12 (length text)) (Err TooLong) (cond (not (in_range 1 999_999_999_999 (digits_value 10 text))) (Err OutOfRange) (Ok (digits_value 10 text))))) ≡ Some n → Reads text n
     by_digits true all e = by_width all (nat_lt 12 (length text)) e
     by_digits false all e = no_answer e refl
 
-    by_empty : (b : Bool) → ok_of (cond b (Err Empty) (cond (not (all_ascii_digits text)) (Err NotDigits) (cond (nat_lt 12 (length text)) (Err TooLong) (cond (not (in_range 1 999_999_999_999 (digits_value 10 text))) (Err OutOfRange) (Ok (digits_value 10 text)))))) ≡ Some n → Reads text n
+    by_empty : (b : Bool) → result_ok (cond b (Err Empty) (cond (not (all_ascii_digits text)) (Err NotDigits) (cond (nat_lt 12 (length text)) (Err TooLong) (cond (not (in_range 1 999_999_999_999 (digits_value 10 text))) (Err OutOfRange) (Ok (digits_value 10 text)))))) ≡ Some n → Reads text n
     by_empty true e = no_answer e refl
     by_empty false e = by_digits (all_ascii_digits text) refl e
 
 in_full : (text : List ℕ) (n : ℕ) → uprn_in text ≡ Some n → InFull text n
 in_full text n is = by_size (length text == 12) refl is
   where
-    by_size : (b : Bool) → (length text == 12) ≡ b → cond b (ok_of (read_id 12 1 999_999_999_999 text)) None ≡ Some n → InFull text n
+    by_size : (b : Bool) → (length text == 12) ≡ b → cond b (result_ok (read_id 12 1 999_999_999_999 text)) None ≡ Some n → InFull text n
     by_size true size e =
         let r = reads text n e in
         record { is = ap (digits_in 12) (sym r.value) ∙ digits_again 12 text (eqb-true (length text) 12 size) r.all; range = r.range }
@@ -206,7 +206,7 @@ custody_follows v n x is = by_plain (is_plain v) refl is
 -- of kind 92 it says no item
 pub no_item : (r : Row) → number_in (table.kind_of r) ≡ 92 → item_in r ≡ None
 unfolding read_cells
-no_item r kind = ap (λ k. ok_of (said_in (cells_in r) (kind_numbered k))) kind
+no_item r kind = ap (λ k. result_ok (said_in (cells_in r) (kind_numbered k))) kind
 
 -- without a hop it says of no number what became of it
 pub no_passage : (r : Row) → table.hop_of r ≡ Int (pos 0) → custody_in (custody_cells_in r) ≡ None

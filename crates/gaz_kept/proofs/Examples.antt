@@ -1,6 +1,7 @@
 -- What the definitions come to on worked examples.
 use Rattle.std.proofs.Common.{◌≡◌, ◌∙◌, ◌≤◌, ◌<◌, ◌+◌, ◌⊎◌, ◌||◌, ◌==◌, ℕ, suc, pos, Bool, true, false, cond, true≢false, List, [], ◌∷◌, inl, inr, refl, sym, ap, subst, arith, slice_get}
 use Rattle.std.specs.Prelude.{IsSomeAnd, Some, None, Ok, length, map, slice_index_or, unwrap_or}
+use Rattle.std.specs.Result.{result_ok}
 use Rattle.std.specs.Cmp.{IsTotalOrder, nat_cmp_total}
 use Rattle.std.specs.FinMap as finite
 use Rattle.std.specs.FinMap.{find, put}
@@ -15,7 +16,6 @@ use Rattle.sqlite_rules.specs.Lists.{Has}
 use Rattle.sqlite_rules.proofs.ListLemmas.{all_has}
 use Rattle.gaz_records.proofs.ItemsBack.{text-back}
 use Rattle.gaz_records.proofs.KeyOrder.{keys_total}
-use Rattle.gaz_records.specs.Fields.{ok_of}
 use Rattle.gaz_records.specs.Items.{is_entry, is_item}
 use Rattle.gaz_records.specs.declared.item.Item.{Item}
 use Rattle.gaz_records.specs.declared.key.Key.{Key}
@@ -58,7 +58,7 @@ pub said : (id : Value) (c born gone : ℕ) (x : Item) → is_item x ≡ true �
 said id c born gone x is entry = says id c born gone x (reads x is entry)
 
 said_item : (id : Value) (c born gone : ℕ) (x : Item) → is_item x ≡ true → is_entry x ≡ true → item_in (id ∷ values_of c born gone x) ≡ Some x
-said_item id c born gone x is entry = ap (λ d. ok_of (read_cells d)) (cells_same id c born gone x) ∙ ap ok_of (reads x is entry)
+said_item id c born gone x is entry = ap (λ d. result_ok (read_cells d)) (cells_same id c born gone x) ∙ ap result_ok (reads x is entry)
 
 other : ¬ (◌≡◌ {A = ℕ} 1002 1001)
 other e = absurd (omega arith)

@@ -27,7 +27,7 @@ use Rattle.gaz_kept.specs.Files.{reached_in}
 use Rattle.gaz_kept.specs.Histories.{AreVersions}
 use Rattle.gaz_kept.specs.Kept.{IsKept, IsPassageRow}
 use Rattle.gaz_kept.specs.LastViews.{last_in}
-use Rattle.gaz_kept.specs.NewestPassages.{HasPassage, SaysPassage, SaysPassed, TellsPassage, custody_of}
+use Rattle.gaz_kept.specs.NewestPassages.{HasPassage, SaysPassage, SaysPassed, custody_of}
 use Rattle.gaz_kept.specs.Passages.{IsLastOf}
 use Rattle.gaz_kept.specs.Versions.{custody_cells_in, number_in, passage_in, passages_in, passing, view_in}
 use Rattle.gaz_kept.specs.declared.passages.Passed.{Passed}
@@ -35,6 +35,19 @@ use Rattle.gaz_kept.proofs.PassageRows.{last_is_current, rows_say}
 use Rattle.gaz_kept.proofs.PassageStatements.{IsPassingOf, PassedBorn, kind_passage, known_of, passage_of, passed_as}
 use Rattle.gaz_kept.proofs.Reached.{reached_room}
 use Rattle.gaz_kept.proofs.RowsRead.{read_from, read_in, some_same, tells_of}
+
+-- the passage that it tells of is this row of the number
+pub record IsPassedRow (uprn : ℕ) (passed : Passed) (p : PassageRow) : Type 0 where
+  pub of_number : p.uprn ≡ uprn
+  pub born : p.born ≡ passed.born
+  pub custody : p.custody ≡ passed.custody
+
+-- or it tells of none
+abbrev pub TellsPassage : ℕ → Option Passed → Option PassageRow → Type 0
+TellsPassage uprn None None = Unit {0}
+TellsPassage uprn None (Some p) = ⊥
+TellsPassage uprn (Some passed) None = ⊥
+TellsPassage uprn (Some passed) (Some p) = IsPassedRow uprn passed p
 
 -- what cells of what became of a number tell
 told_back : (n : ℕ) (x : Custody) → is_custody x ≡ true → told_in (custody_cells n x) ≡ Some x
@@ -98,7 +111,7 @@ module _ (c uprn : ℕ) (rows answer : List Row) (all : AreVersions rows) (known
             omega (arith, ints, bound);
       }
 
-      said_so : (passed : Passed) → SaysPassed (custody_shown r) passed → TellsPassage uprn (Some passed) (Some born.row)
+      said_so : (passed : Passed) → SaysPassed 0 (custody_shown r) passed → TellsPassage uprn (Some passed) (Some born.row)
       said_so passed said =
           let s = tells_of r version in
           let whole = some_same born.row (passing (number_in (table.born_of r)) (number_in (table.gone_of r)) (s.number, s.custody)) born.is (passage_of c r s (ap number_in (ours r greatest.fits).of_cust)) in
@@ -116,7 +129,7 @@ module _ (c uprn : ℕ) (rows answer : List Row) (all : AreVersions rows) (known
         by_answer [] none passed says = subst (Told Passes (passages_in rows c) uprn) (sym says) (record { row = None; tells = tt; last = none_passes none })
         by_answer (x ∷ []) g None says = absurd says
         by_answer (x ∷ []) g (Some passed) says =
-            let said = subst (λ r. SaysPassed r passed) g.3 says in
+            let said = subst (λ r. SaysPassed 0 r passed) g.3 says in
             record { row = Some (born g.0 g.1 g.2).row; tells = said_so g.0 g.1 g.2 passed said; last = latest g.0 g.1 g.2 }
         by_answer (x ∷ y ∷ more) g passed says = absurd g
 

@@ -132,6 +132,7 @@ rows_hold = record {
 told_holds : WorkedTold
 told_holds = record {
   taken = record { born = refl; custody = refl; bare = record { language = refl; body = refl } };
+  listed = record { born = refl; custody = refl; bare = record { language = refl; body = refl } };
   damaged = refl;
   texts = λ bare. let clash = bare.body in absurd (cc);
 }

@@ -1,13 +1,13 @@
 -- What a row of the table says of an item, a key or a number, and what is read off a list of rows.
 use Rattle.std.proofs.Common.{◌≡◌, ◌≢◌, ◌∙◌, ◌≤◌, ◌==◌, ◌⊎◌, inl, inr, ℕ, pos, Bool, true, false, cond, List, [], ◌∷◌, refl, sym, ap, subst, arith, eq-eqb, ne_eqb, eqb-true, true≢false}
 use Rattle.std.specs.Prelude.{Option, Some, None, Ok, Err, Result, IsSomeAnd, is_some, option_map}
+use Rattle.std.specs.Result.{result_ok}
 use Rattle.std.specs.List.{cons_option, filter_map, find}
 use Rattle.sqlite.specs.declared.types.Value.{Value}
 use Rattle.sqlite.specs.declared.types.Value.TheVariants.{Int, Text}
 use Rattle.sqlite.specs.Order.{Row}
 use Rattle.sqlite_rules.specs.Lists.{Has}
 use Rattle.gaz_records.proofs.ItemsBack.{fields-back, text-back}
-use Rattle.gaz_records.specs.Fields.{ok_of}
 use Rattle.gaz_records.specs.Items.{ItemsReadBack, is_entry, is_item}
 use Rattle.gaz_records.specs.Keys.{key_of}
 use Rattle.gaz_records.specs.Kinds.{kinds, number_of}
@@ -154,7 +154,7 @@ pub record Says (r : Row) : Type 0 where
   pub said : item_in r ≡ Some item
   pub cells : cells_of item ≡ cells_in r
 
-ok_is : (a : Result Item CellFault) (x : Item) → ok_of a ≡ Some x → a ≡ Ok x
+ok_is : (a : Result Item CellFault) (x : Item) → result_ok a ≡ Some x → a ≡ Ok x
 ok_is (Ok y) x e = let same : y ≡ x = cc in ap Ok same
 ok_is (Err f) x e = let none : None ≡ Some x = e in absurd (cc)
 

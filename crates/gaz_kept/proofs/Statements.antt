@@ -1,12 +1,12 @@
 -- What an INSERT and an UPDATE make of the histories.
 use Rattle.std.proofs.Common.{◌≡◌, ◌≢◌, ◌∙◌, ◌≤◌, ◌==◌, ◌⊎◌, inl, inr, ℕ, pos, Bool, true, false, cond, List, ◌∷◌, refl, sym, ap, subst}
 use Rattle.std.specs.Prelude.{Some, None, IsSomeAnd}
+use Rattle.std.specs.Result.{result_ok}
 use Rattle.sqlite.specs.declared.types.Value.{Value}
 use Rattle.sqlite.specs.declared.types.Value.TheVariants.{Int}
 use Rattle.sqlite.specs.Order.{Row}
 use Rattle.sqlite_rules.specs.Lists.{Has}
 use Rattle.gaz_records.proofs.ItemsBack.{text-back}
-use Rattle.gaz_records.specs.Fields.{ok_of}
 use Rattle.gaz_records.specs.Items.{is_entry, is_item}
 use Rattle.gaz_records.specs.Kinds.{number_of}
 use Rattle.gaz_records.specs.declared.item.Item.{Item}
@@ -49,7 +49,7 @@ written_version id c born gone x known entry first in_turn = inl (record {
     by_test false = refl
 
     said : item_in (id ∷ values_of c born gone x) ≡ Some x
-    said = ap (λ d. ok_of (read_cells d)) (cells_same id c born gone x) ∙ ap ok_of (cells_back x entry (text-back x known))
+    said = ap (λ d. result_ok (read_cells d)) (cells_same id c born gone x) ∙ ap result_ok (cells_back x entry (text-back x known))
 
 pub insert_adds : InsertAdds
 insert_adds id c born gone x old new known entry first in_turn all added = record {

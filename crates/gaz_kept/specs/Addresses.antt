@@ -8,14 +8,8 @@ use Rattle.gaz_records.specs.declared.item.Item.{Item}
 use Rattle.gaz_records.specs.declared.item.Kind.TheVariants as kind
 use Rattle.gaz_records.specs.declared.key.Key.{Key}
 use Rattle.gaz_cells.specs.Ids.{key_named}
-use Rattle.gaz_ledger.specs.Indexes.{has_key}
 use Rattle.gaz_kept.specs.Decoding.{IsItemAt}
 use Rattle.gaz_kept.specs.Versions.{text_in}
-
--- keys, each once, in their order
-pub record AreInOrder (keys sorted : List Key) : Type 0 where
-  pub same : (k : Key) → has_key sorted k ≡ has_key keys k
-  pub rising : IsStrictlySortedBy key_cmp sorted
 
 -- the row's id names the key of an address
 abbrev pub Names : Row → Key → Type 0
@@ -34,7 +28,7 @@ pub record SaysAddress (rows : List Row) (k : Key) (x : Item) : Type 0 where
   pub named : Names row k
   pub item : IsItemAt row 1 k x
 
--- it is the address of the first key
+-- the rows say of an address that it is the first key's; none where there is no key
 abbrev pub SaysFirst : List Row → List Key → Option Item → Type 0
 SaysFirst rows [] x = x ≡ None
 SaysFirst rows (k ∷ keys) None = ⊥

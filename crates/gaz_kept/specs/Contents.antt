@@ -26,6 +26,6 @@ content_of received items working = record {
   working = working;
 }
 
--- so do the tables
+-- the files and the board that the tables of a database hold, with this working view beside them
 abbrev pub content_in : Database → View → Content
 content_in db working = content_of (rows_of db received) (rows_of db version2) working

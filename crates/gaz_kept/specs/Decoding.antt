@@ -13,7 +13,7 @@ pub record IsBodyOf (k : Key) (text : List ℕ) (x : Item) : Type 0 where
   pub read : item_of_text (kind_in k) text ≡ Ok x
   pub own : key_of x ≡ k
 
--- so it is in a column
+-- the text in a column is the body of an item at a key
 pub record IsItemAt (r : Row) (place : ℕ) (k : Key) (x : Item) : Type 0 where
   pub text : List ℕ
   pub there : column r place ≡ Text text

@@ -23,7 +23,7 @@ with_use v k = record v { used = set.insert v.used k }
 
 -- ---- histories by their rows
 
--- the same rows, of items or of passages, in whatever order and however often each
+-- both lists have the same rows, in whatever order and however often each
 pub record AreSame {X : Type 0} (old new : List X) : Type 0 where
   pub only : (r : X) → Has new r → Has old r
   pub kept : (r : X) → Has old r → Has new r
@@ -56,7 +56,7 @@ pub record IsLast (h : HistoryRow) (rows : List HistoryRow) : Type 0 where
   pub there : Has rows h
   pub last : (r : HistoryRow) → Has rows r → r.key ≡ h.key → r.born ≤ h.born
 
--- it goes with a volume in which it stands, or at its end
+-- the item of a row goes with a volume in which it stands, or at its end
 pub record GoesWith (h : HistoryRow) (volume : ℕ) : Type 0 where
   pub born : h.born ≤ volume
   pub gone : volume ≤ h.gone

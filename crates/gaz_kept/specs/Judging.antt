@@ -28,7 +28,7 @@ pub record AreFiles (rows : List Row) : Type 0 where
 
 -- ---- a file comes
 
--- it is received, and nothing is judged by that
+-- a file is received as a custodian's volume, and nothing is judged by that
 pub record Arrives (c volume : ℕ) (bytes : List ℕ) (old new : List Row) : Type 0 where
   pub are_files : AreFiles new
   pub files : files_in new ≡ with_file (files_in old) c volume bytes

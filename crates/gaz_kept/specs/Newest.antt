@@ -39,7 +39,7 @@ pub record IsLatest (Passes : HistoryRow → Type 0) (rows : List HistoryRow) (k
   pub passes : Passes h
   pub last : (r : HistoryRow) → Has rows r → r.key ≡ k → Passes r → r.born ≤ h.born
 
--- or none passes
+-- of the rows of a key that pass, this was born last; none where none passes
 abbrev pub IsLatestOf : (HistoryRow → Type 0) → List HistoryRow → Key → Option HistoryRow → Type 0
 IsLatestOf Passes rows k None = (r : HistoryRow) → Has rows r → r.key ≡ k → ¬ Passes r
 IsLatestOf Passes rows k (Some h) = IsLatest Passes rows k h

@@ -1,5 +1,5 @@
 -- What a query for a number's newest passage tells.
-use Rattle.std.specs.Prelude.{◌≡◌, ℕ, pos, List, [], ◌∷◌, Option, Some, None}
+use Rattle.std.specs.Prelude.{◌≡◌, ◌+◌, ℕ, pos, List, [], ◌∷◌, Option, Some, None}
 use Rattle.std.specs.Prelude.{option_map}
 use Rattle.sqlite.specs.declared.types.Value.TheVariants.{Int, Text}
 use Rattle.sqlite.specs.Order.{Row, column}
@@ -14,41 +14,29 @@ use Rattle.gaz_kept.specs.declared.passages.Passed.{Passed}
 
 -- ---- what an answer says
 
--- taken or given up, the other custodian's code and the hop, of a row of born, gone, live, street,
--- hop, lang and body
-abbrev pub custody_shown_in : Row → Option Custody
-custody_shown_in r =
-    custody_told (number_in (column r 2)) (of_id 1 9999 (number_in (column r 3)))
-    (of_id 1 9999 (number_in (column r 4)))
+-- taken or given up, the other custodian's code and the hop, of a row that has born, gone, live,
+-- street, hop, lang and body from a column on
+abbrev pub custody_shown_in : ℕ → Row → Option Custody
+custody_shown_in at r =
+    custody_told (number_in (column r (at + 2))) (of_id 1 9999 (number_in (column r (at + 3))))
+    (of_id 1 9999 (number_in (column r (at + 4))))
 
--- no language and no text stand beside it
-pub record IsBare (r : Row) : Type 0 where
-  pub language : column r 5 ≡ Int (pos 0)
-  pub body : column r 6 ≡ Text []
+-- no language and no text stand in such a row
+pub record IsBare (at : ℕ) (r : Row) : Type 0 where
+  pub language : column r (at + 5) ≡ Int (pos 0)
+  pub body : column r (at + 6) ≡ Text []
 
-pub record SaysPassed (r : Row) (passed : Passed) : Type 0 where
-  pub born : column r 0 ≡ Int (pos passed.born)
-  pub custody : custody_shown_in r ≡ Some passed.custody
-  pub bare : IsBare r
+-- such a row says what became of a number, and in which volume
+pub record SaysPassed (at : ℕ) (r : Row) (passed : Passed) : Type 0 where
+  pub born : column r at ≡ Int (pos passed.born)
+  pub custody : custody_shown_in at r ≡ Some passed.custody
+  pub bare : IsBare at r
 
--- the first row
+-- the first row says that, from its first column on; there is none where there is no row
 abbrev pub SaysPassage : List Row → Option Passed → Type 0
 SaysPassage [] passed = passed ≡ None
 SaysPassage (r ∷ rows) None = ⊥
-SaysPassage (r ∷ rows) (Some passed) = SaysPassed r passed
-
--- the passage that it tells of is this row of the number
-pub record IsPassedRow (uprn : ℕ) (passed : Passed) (p : PassageRow) : Type 0 where
-  pub of_number : p.uprn ≡ uprn
-  pub born : p.born ≡ passed.born
-  pub custody : p.custody ≡ passed.custody
-
--- or it tells of none
-abbrev pub TellsPassage : ℕ → Option Passed → Option PassageRow → Type 0
-TellsPassage uprn None None = Unit {0}
-TellsPassage uprn None (Some p) = ⊥
-TellsPassage uprn (Some passed) None = ⊥
-TellsPassage uprn (Some passed) (Some p) = IsPassedRow uprn passed p
+SaysPassage (r ∷ rows) (Some passed) = SaysPassed 0 r passed
 
 -- ---- what of it holds
 

@@ -7,7 +7,7 @@ use Rattle.gaz_records.specs.declared.key.Key.TheVariants as key
 use Rattle.gaz_views.specs.View.{custody_at, was_used}
 use Rattle.gaz_views.specs.declared.custody.Custody.TheVariants.{Adopted, Released}
 use Rattle.gaz_overlay.specs.Passages.{PassageRow}
-use Rattle.gaz_tables.specs.Custody.{custody_shown}
+use Rattle.gaz_tables.specs.Custody.{custody_shown, listed_shown}
 use Rattle.gaz_kept.specs.Examples.{changed_101, four_rows}
 use Rattle.gaz_kept.specs.Kept.{ArePassages, IsVersion}
 use Rattle.gaz_kept.specs.NewestPassages.{IsBare, SaysPassed, custody_shown_in}
@@ -67,9 +67,11 @@ abbrev pub told_taken : Passed
 told_taken = record { born = 3; custody = Adopted 1002 2 }
 
 pub record WorkedTold : Type 0 where
-  pub taken : SaysPassed (custody_shown taken_row) told_taken
-  pub damaged : custody_shown_in (custody_shown without_hop) ≡ None
-  pub texts : ¬ IsBare (custody_shown with_text)
+  pub taken : SaysPassed 0 (custody_shown taken_row) told_taken
+  -- with a column before
+  pub listed : SaysPassed 1 (listed_shown taken_row) told_taken
+  pub damaged : custody_shown_in 0 (custody_shown without_hop) ≡ None
+  pub texts : ¬ IsBare 0 (custody_shown with_text)
 
 pub record WorkedPassages : Type 0 where
   pub on_passing : WorkedPassing

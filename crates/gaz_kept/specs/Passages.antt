@@ -74,7 +74,7 @@ pub record IsLastPassage (t : ℕ) (rows : List PassageRow) (uprn : ℕ) (p : Pa
   pub born : p.born ≤ t
   pub last : (r : PassageRow) → Has rows r → r.uprn ≡ uprn → r.born ≤ t → r.born ≤ p.born
 
--- or none was
+-- of a number's rows that were born until a volume, this was born last; none where none was
 abbrev pub IsLastOf : ℕ → List PassageRow → ℕ → Option PassageRow → Type 0
 IsLastOf t rows uprn None = (r : PassageRow) → Has rows r → r.uprn ≡ uprn → ¬ (r.born ≤ t)
 IsLastOf t rows uprn (Some p) = IsLastPassage t rows uprn p

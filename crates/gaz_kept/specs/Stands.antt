@@ -35,7 +35,7 @@ ReceiveStands = (c volume : ℕ) (bytes : List ℕ) (working : View) (old new : 
 abbrev pub next_in : Database → ℕ → ℕ
 next_in db c = reached_in (rows_of db received) c + 1
 
--- it is rejected, where it is at hand
+-- a custodian's next volume is rejected, where it is at hand
 abbrev pub SkipStands : Type 0
 SkipStands = (c place rule : ℕ) (working : View) (old new : Database) → rule ≤ 255
     → IsKept old → IsAtHand (content_in old working) c

@@ -1,11 +1,11 @@
 -- What the rows of `version2` stand for.
 use Rattle.std.specs.Prelude.{ℕ, pos, negsuc, ◌==◌, if◌then◌else◌, List, []}
 use Rattle.std.specs.Prelude.{Option, None, option_map}
+use Rattle.std.specs.Result.{result_ok}
 use Rattle.std.specs.List.{filter_map}
 use Rattle.sqlite.specs.declared.types.Value.{Value}
 use Rattle.sqlite.specs.declared.types.Value.TheVariants.{Null, Int, Real, Text, Blob}
 use Rattle.sqlite.specs.Order.{Row}
-use Rattle.gaz_records.specs.Fields.{ok_of}
 use Rattle.gaz_records.specs.Keys.{key_of}
 use Rattle.gaz_records.specs.declared.item.Item.{Item}
 use Rattle.gaz_views.specs.View.{View}
@@ -54,7 +54,7 @@ cells_in r = record {
 
 -- the item that a row's cells say, where they say one
 abbrev pub item_in : Row → Option Item
-item_in r = ok_of (read_cells (cells_in r))
+item_in r = result_ok (read_cells (cells_in r))
 
 -- an item stands under its own key from the volume in which it was born until that in which it went
 abbrev pub living : ℕ → ℕ → Item → HistoryRow

@@ -6,7 +6,7 @@ ghost use Rattle.gaz_kept.specs.Addresses.{SaysAddress, SaysFirst, SaysKeys, Say
 ghost use Rattle.gaz_kept.specs.Versions.{text_in};
 
 use crate::decoding::{RowFault, are_one, item_in, key_in};
-use crate::key_order::in_order;
+use gaz_overlay::in_order;
 use gaz_records::{Key, Kind, SharedItem};
 use sqlite::Row;
 use std::alloc::Global;

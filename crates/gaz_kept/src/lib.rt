@@ -6,7 +6,6 @@ pub mod decoding;
 pub mod keeping;
 mod keeping_keys;
 mod keeping_passages;
-mod key_order;
 pub mod laws;
 pub mod migrating;
 mod naming;

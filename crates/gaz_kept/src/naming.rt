@@ -1,5 +1,5 @@
 //! Which tables and columns a database has, by their names.
-ghost use Rattle.std.specs.Prelude.{◌≡◌, ◌&&◌, not, codes};
+ghost use Rattle.std.specs.Prelude.{◌≡◌, ◌&&◌};
 ghost use Rattle.std.specs.List.{list_all, list_any};
 ghost use Rattle.sqlite_schema.specs.Names.{same_name};
 ghost use Rattle.gaz_tables.specs.Schema.{meta, received, version, version2};

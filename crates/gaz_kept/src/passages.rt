@@ -1,12 +1,10 @@
 //! The row of kind 92 of a number that was born last.
 ghost use Rattle.std.specs.Prelude.{◌≡◌, IfOk};
-ghost use Rattle.gaz_ids.specs.Numbers.{of_id};
-ghost use Rattle.gaz_cells.specs.Custody.{custody_by, custody_told};
 ghost use Rattle.gaz_kept.specs.NewestPassages.{IsBare, SaysPassage, SaysPassed};
 ghost use Rattle.gaz_kept.specs.NewestPassages.{born_of, custody_of};
 
 use crate::decoding::{RowFault, number, text};
-use gaz_ids::{Code, Hop};
+use gaz_cells::custody_told;
 use gaz_views::Custody;
 use sqlite::Row;
 
@@ -18,52 +16,30 @@ pub struct Passed {
     pub custody: Custody,
 }
 
-// Taken or given up, by `live`.
-fn custody_by(live: u64, other: Code, hop: Hop) -> Option<Custody>
-    ensures { result ≡ custody_by live other hop }
+// No language and no text stand in a row from a column on, as in none of kind 92.
+fn check_bare(row: &Row, at: u8) -> Result<(), RowFault>
+    ensures { IfOk result (λ done. IsBare at row.now) }
 {
-    if live == 0 {
-        Some(Custody::Released { to: other, hop })
-    } else if live == 1 {
-        Some(Custody::Adopted { from: other, hop })
-    } else {
-        None
-    }
-}
-
-// What became of a number, of numbers in columns.
-fn custody_told(live: u64, other: u64, hop: u64) -> Option<Custody>
-    ensures { result ≡ custody_told live (of_id 1 9999 other) (of_id 1 9999 hop) }
-{
-    let other = Code::of(other)?;
-    let hop = Hop::of(hop)?;
-    custody_by(live, other, hop)
-}
-
-// No language and no text stand in a row, as in none of kind 92.
-fn check_bare(row: &Row) -> Result<(), RowFault>
-    ensures { IfOk result (λ done. IsBare row.now) }
-{
-    if number(row, 5)? == 0 && text(row, 6)?.is_empty() {
+    let first = usize::from(at);
+    if number(row, first + 5)? == 0 && text(row, first + 6)?.is_empty() {
         Ok(())
     } else {
         Err(RowFault::Wrong)
     }
 }
 
-// What a row of born, gone, live, street, hop, lang and body says.
-fn passed_in(row: &Row) -> Result<Passed, RowFault>
-    ensures { IfOk result (SaysPassed row.now) }
+/// What a row says from a column on, which has born, gone, live, street, hop, lang and body there.
+pub fn passed_in(row: &Row, at: u8) -> Result<Passed, RowFault>
+    ensures { IfOk result (SaysPassed at row.now) }
 {
-    let born = number(row, 0)?;
-    let live = number(row, 2)?;
-    let other = number(row, 3)?;
-    let hop = number(row, 4)?;
-    check_bare(row)?;
-    match custody_told(live, other, hop) {
-        Some(custody) => Ok(Passed { born, custody }),
-        None => Err(RowFault::Wrong),
-    }
+    check_bare(row, at)?;
+    let first = usize::from(at);
+    let born = number(row, first)?;
+    let live = number(row, first + 2)?;
+    let other = number(row, first + 3)?;
+    let hop = number(row, first + 4)?;
+    let custody = custody_told(live, other, hop).ok_or(RowFault::Wrong)?;
+    Ok(Passed { born, custody })
 }
 
 /// What the first row says, where there is one.
@@ -71,7 +47,7 @@ pub fn passage_said(rows: &[Row]) -> Result<Option<Passed>, RowFault>
     ensures { IfOk result (SaysPassage rows.now) }
 {
     match rows.first() {
-        Some(row) => Ok(Some(passed_in(row)?)),
+        Some(row) => Ok(Some(passed_in(row, 0)?)),
         None => Ok(None),
     }
 }

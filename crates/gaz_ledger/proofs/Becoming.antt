@@ -8,6 +8,7 @@ use Rattle.std.specs.FinMap.{get-entries, entries_sorted, nat_cmp-IsAntisymmetri
 use Rattle.std.specs.List.{All, list_any}
 use Rattle.std.specs.Map.{lookup}
 use Rattle.std.specs.Ordering.{eq_by_cmp, nat_cmp}
+use Rattle.gaz_records.specs.declared.item.Item.{Item}
 use Rattle.gaz_histories.specs.Histories.{Version, Versions, before, standing_at, until}
 use Rattle.gaz_views.specs.View.{empty_view}
 use Rattle.gaz_views.specs.declared.custody.Custody.{Custody}
@@ -16,7 +17,7 @@ use Rattle.gaz_ledger.proofs.RowsAt.{same_rows}
 use Rattle.gaz_ledger.proofs.Touched.{none_of, none_there}
 use Rattle.gaz_ledger.proofs.Versions.{before_within, cut_within, item_set, last, none_at_first, set_within, settled}
 use Rattle.gaz_ledger.specs.Custodies.{BecomesAt, Custodies, ForgetsAt, IsPassing, PassesAt, custody_after, passed_at, view_with}
-use Rattle.gaz_ledger.specs.KeyHistories.{ItemVersion, KeyHistories, rows_at, versions_at, view_at}
+use Rattle.gaz_ledger.specs.KeyHistories.{KeyHistories, rows_at, versions_at, view_at}
 use Rattle.gaz_records.specs.declared.key.Key.{Key}
 
 abbrev Passage : Type 0
@@ -192,7 +193,7 @@ passing_new ls =
 -- ---- views with what became of numbers
 
 abbrev pub AreWithin : ℕ → KeyHistories → Custodies → Type 0
-AreWithin n g c = ((k : Key) → All (λ (e : ItemVersion). (0 < e.0) × (e.0 ≤ n + 1)) (versions_at g k)) × IsPassedWithin n c
+AreWithin n g c = ((k : Key) → All (λ (e : Version Item). (0 < e.0) × (e.0 ≤ n + 1)) (versions_at g k)) × IsPassedWithin n c
 
 pub same_with : (g h : KeyHistories) (c d : Custodies) (v w : ℕ) → view_at g v ≡ view_at h w → custody_after c v ≡ custody_after d w → view_with g c v ≡ view_with h d w
 same_with g h c d v w items custody = λ i. record (items i) { custody = custody i }

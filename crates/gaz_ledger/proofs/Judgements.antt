@@ -3,6 +3,8 @@ use Rattle.std.proofs.Common.{◌≡◌, ◌≤◌, ◌<◌, ◌+◌, ℕ, zero,
 use Rattle.std.proofs.lemmas.Bool.Decides.{nat_tests}
 use Rattle.std.specs.Prelude.{nat_le}
 use Rattle.std.specs.List.{All}
+use Rattle.gaz_records.specs.declared.item.Item.{Item}
+use Rattle.gaz_histories.specs.Histories.{Version}
 use Rattle.gaz_records.specs.declared.key.Key.{Key}
 use Rattle.gaz_views.proofs.Judgements.{append_judged, count_judged, same_judged, view_judged}
 use Rattle.gaz_views.specs.Judgements.{judgements, views}
@@ -12,13 +14,13 @@ use Rattle.gaz_views.specs.declared.verdict.Verdict.{Verdict}
 use Rattle.gaz_ledger.proofs.Becoming.{AreWithin, first_with, later_with}
 use Rattle.gaz_ledger.proofs.KeyHistories.{settled_view}
 use Rattle.gaz_ledger.specs.Custodies.{Custodies, view_with}
-use Rattle.gaz_ledger.specs.KeyHistories.{ItemVersion, KeyHistories, versions_at, view_at}
+use Rattle.gaz_ledger.specs.KeyHistories.{KeyHistories, versions_at, view_at}
 use Rattle.gaz_ledger.specs.Ledgers.{account_at}
 
 abbrev pub IsWithin : ℕ → KeyHistories → Type 0
-IsWithin n g = (k : Key) → All (λ (e : ItemVersion). (0 < e.0) × (e.0 ≤ n + 1)) (versions_at g k)
+IsWithin n g = (k : Key) → All (λ (e : Version Item). (0 < e.0) × (e.0 ≤ n + 1)) (versions_at g k)
 
-upper : (n : ℕ) (g : KeyHistories) → IsWithin n g → (k : Key) → All (λ (e : ItemVersion). e.0 ≤ n + 1) (versions_at g k)
+upper : (n : ℕ) (g : KeyHistories) → IsWithin n g → (k : Key) → All (λ (e : Version Item). e.0 ≤ n + 1) (versions_at g k)
 upper n g within k i d less = (within k i d less).1
 
 -- the working view is that of any later volume too

@@ -11,7 +11,7 @@ use Rattle.std.specs.List.Sorted.{IsStrictlySortedBy}
 use Rattle.std.specs.Map.{keys_of}
 use Rattle.std.specs.Ordering.{eq_by_cmp, is_lt}
 use Rattle.std.specs.declared.cmp.Ordering.TheVariants.{Less}
-use Rattle.gaz_histories.specs.Histories.{standing_at, until, was_used_at}
+use Rattle.gaz_histories.specs.Histories.{Version, standing_at, until, was_used_at}
 use Rattle.gaz_records.proofs.KeyOrder.{keys_exact, keys_total}
 use Rattle.gaz_records.specs.Keys.{key_cmp, key_of}
 use Rattle.gaz_records.specs.declared.item.Item.{Item}
@@ -21,7 +21,7 @@ use Rattle.gaz_views.specs.View.{View, empty_view, with_item, without_key}
 use Rattle.gaz_views.specs.Words.{entries}
 use Rattle.gaz_ledger.proofs.RowsAt.{below_none, both_hold, is_less, same_rows}
 use Rattle.gaz_ledger.proofs.Versions.{last, none_at_first, no_version, settled, some_version, used_by, used_where_item}
-use Rattle.gaz_ledger.specs.KeyHistories.{ChangesAt, ItemVersion, ItemVersions, KeyHistories, rows_at, used_at, versions_at, view_at}
+use Rattle.gaz_ledger.specs.KeyHistories.{ChangesAt, ItemVersions, KeyHistories, rows_at, used_at, versions_at, view_at}
 
 abbrev Rows : Type 0
 Rows = List (Key × ItemVersions)
@@ -51,18 +51,22 @@ same_used (e ∷ es) h v q = by_test (same_used es (both_hold (below_all key_cmp
     by_test behind false is true at = behind ∙ ap (λ k. was_used_at (versions_in es k) v) (same_key q e.0 at) ∙ ap (λ o. was_used_at (unwrap_or o []) v) (below_none key_cmp same_key e.0 es two.0) ∙ sym is
     by_test behind false is false at = behind
 
--- the keys of a view's rows ascend
-pub view_ascends : (v : View) → IsStrictlySortedBy key_cmp (keys_of (entries v))
+-- the keys of a map ascend
+pub keys_ascend : {X : Type 0} (m : finite.FinMap key_cmp X) → IsStrictlySortedBy key_cmp (finite.keys m)
 unfolding IsStrictlySortedBy
-view_ascends v = ascends (entries v) (entries_sorted v.items)
+keys_ascend {X} m = ascends (finite.entries m) (entries_sorted m)
   where
-    above : (k : Key) (es : List (Key × Item)) → T (below_all key_cmp k es) → AllByRecursion (λ y. key_cmp k y ≡ Less) (keys_of es)
+    above : (k : Key) (es : List (Key × X)) → T (below_all key_cmp k es) → AllByRecursion (λ y. key_cmp k y ≡ Less) (keys_of es)
     above k [] h = tt
     above k (e ∷ es) h = let two = both_hold (is_lt (key_cmp k e.0)) (below_all key_cmp k es) h in (is_less _ two.0, above k es two.1)
 
-    ascends : (es : List (Key × Item)) → T (is_sorted key_cmp es) → IsStrictlySortedBy key_cmp (keys_of es)
+    ascends : (es : List (Key × X)) → T (is_sorted key_cmp es) → IsStrictlySortedBy key_cmp (keys_of es)
     ascends [] h = tt
     ascends (e ∷ es) h = let two = both_hold (below_all key_cmp e.0 es) (is_sorted key_cmp es) h in (above e.0 es two.0, ascends es two.1)
+
+-- the keys of a view's rows do
+pub view_ascends : (v : View) → IsStrictlySortedBy key_cmp (keys_of (entries v))
+view_ascends v = keys_ascend v.items
 
 -- ---- what a view has at a key
 
@@ -100,11 +104,11 @@ same_view g h v w alike = same_views (view_at g v) (view_at h w) (none_passed g 
     (λ k. contains_at g v k ∙ used_by (versions_at g k) v ∙ ap some_version (alike k) ∙ sym (used_by (versions_at h k) w) ∙ sym (contains_at h w k))
 
 -- where no more versions begin
-pub settled_view : (g : KeyHistories) (n v w : ℕ) → n ≤ v → n ≤ w → ((k : Key) → All (λ (e : ItemVersion). e.0 ≤ n) (versions_at g k)) → view_at g v ≡ view_at g w
+pub settled_view : (g : KeyHistories) (n v w : ℕ) → n ≤ v → n ≤ w → ((k : Key) → All (λ (e : Version Item). e.0 ≤ n) (versions_at g k)) → view_at g v ≡ view_at g w
 settled_view g n v w le lf all = same_view g g v w (λ k. settled (versions_at g k) n v le (all k) ∙ sym (settled (versions_at g k) n w lf (all k)))
 
 -- before the first volume
-pub first_view : (g : KeyHistories) (n : ℕ) → ((k : Key) → All (λ (e : ItemVersion). (0 < e.0) × (e.0 ≤ n)) (versions_at g k)) → view_at g 0 ≡ empty_view
+pub first_view : (g : KeyHistories) (n : ℕ) → ((k : Key) → All (λ (e : Version Item). (0 < e.0) × (e.0 ≤ n)) (versions_at g k)) → view_at g 0 ≡ empty_view
 unfolding empty_view
 first_view g n all = same_views (view_at g 0) empty_view (none_passed g 0)
     (λ k. get_at g 0 k ∙ ap last (none_at_first (versions_at g k) n (all k)) ∙ sym (finite.get-empty key_cmp k))

@@ -10,7 +10,7 @@ use Rattle.std.specs.FinSet as set
 use Rattle.std.specs.List.{All, list_any}
 use Rattle.std.specs.Option.{IfSome}
 use Rattle.std.specs.Ordering.{eq_by_cmp, nat_cmp}
-use Rattle.gaz_histories.specs.Histories.{before, standing_at, until, was_used_at}
+use Rattle.gaz_histories.specs.Histories.{Version, before, standing_at, until, was_used_at}
 use Rattle.gaz_records.proofs.KeyOrder.{keys_total}
 use Rattle.gaz_records.specs.Keys.{key_cmp}
 use Rattle.gaz_records.specs.declared.item.Item.{Item}
@@ -28,7 +28,7 @@ use Rattle.gaz_ledger.proofs.Judgements.{IsWithin, later_view, view_in_at}
 use Rattle.gaz_ledger.proofs.Marked.{finds_with_more, still_finds}
 use Rattle.gaz_ledger.proofs.Touched.{none_of, none_there}
 use Rattle.gaz_ledger.proofs.Versions.{before_next, before_within, cut_within, item_set, last, set_within, until_before, until_set}
-use Rattle.gaz_ledger.specs.KeyHistories.{ChangesAt, ItemVersion, ItemVersions, KeyHistories, versions_at, view_at}
+use Rattle.gaz_ledger.specs.KeyHistories.{ChangesAt, ItemVersions, KeyHistories, versions_at, view_at}
 use Rattle.gaz_ledger.specs.Indexes.{FindsAll, has_mark, is_under, marked_at, same_mark}
 use Rattle.gaz_ledger.specs.Custodies.{Custodies, custody_after, view_with}
 use Rattle.gaz_ledger.specs.Ledgers.{Finds, IsLedger, account_at}
@@ -110,8 +110,8 @@ pub ledger_new : (x : Index) → IsLedger 0 finite.empty x []
 ledger_new x =
     record {
       finds = record { last = finds_none 0; working = finds_none 1 };
-      within = λ k. subst (λ (vs : ItemVersions). All (λ (e : ItemVersion). (0 < e.0) × (e.0 ≤ 1)) vs) (sym (nothing_there k)) (All-nil (λ (e : ItemVersion). (0 < e.0) × (e.0 ≤ 1)));
-      touched = λ k _. subst (λ (vs : ItemVersions). All (λ (e : ItemVersion). e.0 ≤ 0) vs) (sym (nothing_there k)) (All-nil (λ (e : ItemVersion). e.0 ≤ 0));
+      within = λ k. subst (λ (vs : ItemVersions). All (λ (e : Version Item). (0 < e.0) × (e.0 ≤ 1)) vs) (sym (nothing_there k)) (All-nil (λ (e : Version Item). (0 < e.0) × (e.0 ≤ 1)));
+      touched = λ k _. subst (λ (vs : ItemVersions). All (λ (e : Version Item). e.0 ≤ 0) vs) (sym (nothing_there k)) (All-nil (λ (e : Version Item). e.0 ≤ 0));
     }
   where
     finds_none : (v : ℕ) → FindsAll x (entries (view_at finite.empty v))
@@ -123,9 +123,9 @@ ledger_set n g h x y ks ls key o was finds is change =
     let vs = before (versions_at g key) (n + 1) ++ (n + 1, o) ∷ [] in
     record {
       finds = finds;
-      within = holds_at g h key vs change (λ (ws : ItemVersions). All (λ (e : ItemVersion). (0 < e.0) × (e.0 ≤ n + 1)) ws) (set_within (versions_at g key) n o (was.within key)) was.within;
+      within = holds_at g h key vs change (λ (ws : ItemVersions). All (λ (e : Version Item). (0 < e.0) × (e.0 ≤ n + 1)) ws) (set_within (versions_at g key) n o (was.within key)) was.within;
       touched = λ k none. let two = none_of (eq_by_cmp key_cmp k) ks key (ap (list_any (eq_by_cmp key_cmp k)) (sym is) ∙ none) in
-          subst (λ (ws : ItemVersions). All (λ (e : ItemVersion). e.0 ≤ n) ws) (sym (others g h key vs change k two.1)) (was.touched k two.0);
+          subst (λ (ws : ItemVersions). All (λ (e : Version Item). e.0 ≤ n) ws) (sym (others g h key vs change k two.1)) (was.touched k two.0);
     }
 
 pub ledger_cut : (n : ℕ) (g h : KeyHistories) (x y : Index) (ks ls : List Key) (key : Key) → IsLedger n g x ks → Finds y h n → ks ≡ ls ++ key ∷ []
@@ -134,24 +134,24 @@ ledger_cut n g h x y ks ls key was finds is change =
     let vs = before (versions_at g key) (n + 1) in
     record {
       finds = finds;
-      within = holds_at g h key vs change (λ (ws : ItemVersions). All (λ (e : ItemVersion). (0 < e.0) × (e.0 ≤ n + 1)) ws) (cut_within (versions_at g key) (n + 1) (n + 1) (was.within key)) was.within;
+      within = holds_at g h key vs change (λ (ws : ItemVersions). All (λ (e : Version Item). (0 < e.0) × (e.0 ≤ n + 1)) ws) (cut_within (versions_at g key) (n + 1) (n + 1) (was.within key)) was.within;
       touched = λ k none. by_key k none (eq_by_cmp key_cmp k key) refl;
     }
   where
-    by_key : (k : Key) → list_any (eq_by_cmp key_cmp k) ls ≡ false → (b : Bool) → eq_by_cmp key_cmp k key ≡ b → All (λ (e : ItemVersion). e.0 ≤ n) (versions_at h k)
+    by_key : (k : Key) → list_any (eq_by_cmp key_cmp k) ls ≡ false → (b : Bool) → eq_by_cmp key_cmp k key ≡ b → All (λ (e : Version Item). e.0 ≤ n) (versions_at h k)
     by_key k none true at =
         let here : versions_at h k ≡ before (versions_at g key) (n + 1) = change k ∙ ap (λ b. cond b (before (versions_at g key) (n + 1)) (versions_at g k)) ((eq_by_cmp_equiv keys_total).symm key k ∙ at) in
-        subst (λ (ws : ItemVersions). All (λ (e : ItemVersion). e.0 ≤ n) ws) (sym here) (before_within (versions_at g key) n)
+        subst (λ (ws : ItemVersions). All (λ (e : Version Item). e.0 ≤ n) ws) (sym here) (before_within (versions_at g key) n)
     by_key k none false at =
-        subst (λ (ws : ItemVersions). All (λ (e : ItemVersion). e.0 ≤ n) ws) (sym (others g h key (before (versions_at g key) (n + 1)) change k at))
+        subst (λ (ws : ItemVersions). All (λ (e : Version Item). e.0 ≤ n) ws) (sym (others g h key (before (versions_at g key) (n + 1)) change k at))
         (was.touched k (ap (list_any (eq_by_cmp key_cmp k)) is ∙ none_there (eq_by_cmp key_cmp k) ls key none at))
 
 pub ledger_closed : (n : ℕ) (g : KeyHistories) (x y : Index) (ks ls : List Key) → IsLedger n g x ks → Finds y g (n + 1) → ls ≡ [] → IsLedger (n + 1) g y ls
 ledger_closed n g x y ks ls was finds is =
     record {
       finds = finds;
-      within = λ k. All-weaker (λ (e : ItemVersion). (0 < e.0) × (e.0 ≤ n + 1)) (λ (e : ItemVersion). (0 < e.0) × (e.0 ≤ n + 1 + 1)) (λ e h. (h.0, (let le : e.0 ≤ n + 1 = h.1 in omega arith))) (versions_at g k) (was.within k);
-      touched = λ k _. All-weaker (λ (e : ItemVersion). (0 < e.0) × (e.0 ≤ n + 1)) (λ (e : ItemVersion). e.0 ≤ n + 1) (λ e h. h.1) (versions_at g k) (was.within k);
+      within = λ k. All-weaker (λ (e : Version Item). (0 < e.0) × (e.0 ≤ n + 1)) (λ (e : Version Item). (0 < e.0) × (e.0 ≤ n + 1 + 1)) (λ e h. (h.0, (let le : e.0 ≤ n + 1 = h.1 in omega arith))) (versions_at g k) (was.within k);
+      touched = λ k _. All-weaker (λ (e : Version Item). (0 < e.0) × (e.0 ≤ n + 1)) (λ (e : Version Item). e.0 ≤ n + 1) (λ e h. h.1) (versions_at g k) (was.within k);
     }
 
 -- what was found is found

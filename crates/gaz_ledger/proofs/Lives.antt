@@ -10,7 +10,7 @@ use Rattle.std.specs.FinSet as set
 use Rattle.std.specs.List.{All, list_any}
 use Rattle.std.specs.Option.{IfSome, option_map_or}
 use Rattle.std.specs.Ordering.{eq_by_cmp, nat_cmp}
-use Rattle.gaz_histories.specs.Histories.{IsOverBy, before, lived, standing_at, until, was_used_at, with_version}
+use Rattle.gaz_histories.specs.Histories.{IsOverBy, Version, before, lived, standing_at, until, was_used_at, with_version}
 use Rattle.gaz_records.proofs.KeyOrder.{keys_total}
 use Rattle.gaz_records.specs.Keys.{key_cmp, key_of}
 use Rattle.gaz_records.specs.declared.item.Item.{Item}
@@ -34,7 +34,7 @@ use Rattle.gaz_ledger.proofs.Versions.{item_set, last, settled, some_version, un
 use Rattle.gaz_ledger.specs.Changing.{IsOneOf, Pair, is_addressed_by, verdict_in}
 use Rattle.gaz_ledger.specs.Indexes.{FindsAll, has_mark, is_under, marked_at}
 use Rattle.gaz_ledger.specs.Custodies.{Custodies, custody_after, view_with}
-use Rattle.gaz_ledger.specs.KeyHistories.{ItemVersion, ItemVersions, KeyHistories, versions_at, view_at}
+use Rattle.gaz_ledger.specs.KeyHistories.{ItemVersions, KeyHistories, versions_at, view_at}
 use Rattle.gaz_ledger.specs.Ledgers.{Finds, IsLedger, account_at}
 use Rattle.gaz_ledger.specs.Lives.{IsFreeFrom, IsLifeWithin, LivesAt, Restores, is_gone_by, with_life}
 use Rattle.gaz_ledger.specs.Properties.{AreSo, is_blpu, known_in}
@@ -45,10 +45,10 @@ use Rattle.gaz_ledger.specs.declared.properties.Properties.{Properties}
 -- ---- a version from a volume on
 
 module _ (vs : ItemVersions) (n : ℕ) (o : Option Item) where
-  early : All (λ (e : ItemVersion). e.0 ≤ n) (with_version vs n o)
+  early : All (λ (e : Version Item). e.0 ≤ n) (with_version vs n o)
   early =
-      All-push (λ (e : ItemVersion). e.0 ≤ n) (before vs n) (n, o)
-      (All-weaker (λ (e : ItemVersion). nat_lt e.0 n ≡ true) (λ (e : ItemVersion). e.0 ≤ n) (λ e h. (let is : nat_lt e.0 n ≡ true = h in grind (arith, nat_tests))) (before vs n) (filter_passes (λ (e : ItemVersion). nat_lt e.0 n) vs))
+      All-push (λ (e : Version Item). e.0 ≤ n) (before vs n) (n, o)
+      (All-weaker (λ (e : Version Item). nat_lt e.0 n ≡ true) (λ (e : Version Item). e.0 ≤ n) (λ e h. (let is : nat_lt e.0 n ≡ true = h in grind (arith, nat_tests))) (before vs n) (filter_passes (λ (e : Version Item). nat_lt e.0 n) vs))
       (omega arith)
 
   as_set : (t : ℕ) → n ≤ t → until (with_version vs n o) t ≡ until (with_version vs n o) n
@@ -60,15 +60,15 @@ module _ (vs : ItemVersions) (n : ℕ) (o : Option Item) where
   used : (t : ℕ) → n ≤ t → was_used_at (with_version vs n o) t ≡ true
   used t le = used_by (with_version vs n o) t ∙ ap some_version (as_set t le) ∙ sym (used_by (with_version vs n o) n) ∙ used_set vs n o
 
-  all_with : (P : ItemVersion → Type 0) → All P vs → P (n, o) → All P (with_version vs n o)
-  all_with P h here = All-push P (before vs n) (n, o) (All-filter (λ (e : ItemVersion). nat_lt e.0 n) P vs h) here
+  all_with : (P : Version Item → Type 0) → All P vs → P (n, o) → All P (with_version vs n o)
+  all_with P h here = All-push P (before vs n) (n, o) (All-filter (λ (e : Version Item). nat_lt e.0 n) P vs h) here
 
 -- ---- a life
 
 abbrev EndsAfter : ℕ → Option ℕ → Type 0
 EndsAfter born gone = IfSome gone (λ g. born ≤ g)
 
-all_lived : (P : ItemVersion → Type 0) (vs : ItemVersions) (born : ℕ) (gone : Option ℕ) (i : Item) → All P vs → P (born, Some i) → IfSome gone (λ g. P (g, None)) → All P (lived vs born gone i)
+all_lived : (P : Version Item → Type 0) (vs : ItemVersions) (born : ℕ) (gone : Option ℕ) (i : Item) → All P vs → P (born, Some i) → IfSome gone (λ g. P (g, None)) → All P (lived vs born gone i)
 all_lived P vs born None i h first end = all_with vs born (Some i) P h first
 all_lived P vs born (Some g) i h first end = all_with (with_version vs born (Some i)) g None P (all_with vs born (Some i) P h first) end
 
@@ -141,14 +141,14 @@ ledger_lived n g h x y ks key born gone i life was finds change =
     let begun = life.begun in
     record {
       finds = finds;
-      within = holds_at g h key (lived (versions_at g key) born gone i) change (λ (ws : ItemVersions). All (λ (e : ItemVersion). (0 < e.0) × (e.0 ≤ n + 1)) ws)
-          (all_lived (λ (e : ItemVersion). (0 < e.0) × (e.0 ≤ n + 1)) (versions_at g key) born gone i (was.within key) (omega arith, omega arith) (weaker gone (λ e h. (let low = h.0 in omega arith, let high = h.1 in omega arith)) life.ended)) was.within;
-      touched = λ k none. subst (λ (ws : ItemVersions). All (λ (e : ItemVersion). e.0 ≤ n) ws) (sym (change k)) (by_same k none (eq_by_cmp key_cmp key k) refl);
+      within = holds_at g h key (lived (versions_at g key) born gone i) change (λ (ws : ItemVersions). All (λ (e : Version Item). (0 < e.0) × (e.0 ≤ n + 1)) ws)
+          (all_lived (λ (e : Version Item). (0 < e.0) × (e.0 ≤ n + 1)) (versions_at g key) born gone i (was.within key) (omega arith, omega arith) (weaker gone (λ e h. (let low = h.0 in omega arith, let high = h.1 in omega arith)) life.ended)) was.within;
+      touched = λ k none. subst (λ (ws : ItemVersions). All (λ (e : Version Item). e.0 ≤ n) ws) (sym (change k)) (by_same k none (eq_by_cmp key_cmp key k) refl);
     }
   where
-    by_same : (k : Key) → list_any (eq_by_cmp key_cmp k) ks ≡ false → (b : Bool) → eq_by_cmp key_cmp key k ≡ b → All (λ (e : ItemVersion). e.0 ≤ n) (cond b (lived (versions_at g key) born gone i) (versions_at g k))
+    by_same : (k : Key) → list_any (eq_by_cmp key_cmp k) ks ≡ false → (b : Bool) → eq_by_cmp key_cmp key k ≡ b → All (λ (e : Version Item). e.0 ≤ n) (cond b (lived (versions_at g key) born gone i) (versions_at g k))
     by_same k none true at =
-        all_lived (λ (e : ItemVersion). e.0 ≤ n) (versions_at g key) born gone i (subst (λ (q : Key). All (λ (e : ItemVersion). e.0 ≤ n) (versions_at g q)) (sym (same_key key k at)) (was.touched k none)) life.begun (weaker gone (λ e h. h.1) life.ended)
+        all_lived (λ (e : Version Item). e.0 ≤ n) (versions_at g key) born gone i (subst (λ (q : Key). All (λ (e : Version Item). e.0 ≤ n) (versions_at g q)) (sym (same_key key k at)) (was.touched k none)) life.begun (weaker gone (λ e h. h.1) life.ended)
     by_same k none false at = was.touched k none
 
 -- the histories are as they were, and more may be under marks

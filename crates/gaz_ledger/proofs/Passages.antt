@@ -33,7 +33,7 @@ use Rattle.gaz_ledger.proofs.Lives.{finds_lived, last_seen, ledger_lived, lived_
 use Rattle.gaz_ledger.proofs.Versions.{item_set, last, settled, until_set}
 use Rattle.gaz_ledger.specs.Changing.{SetsAt, verdict_in}
 use Rattle.gaz_ledger.specs.Custodies.{Custodies, IsPassing, PassesAt, passed_at, view_with}
-use Rattle.gaz_ledger.specs.KeyHistories.{ItemVersion, ItemVersions, KeyHistories, versions_at, view_at}
+use Rattle.gaz_ledger.specs.KeyHistories.{ItemVersions, KeyHistories, versions_at, view_at}
 use Rattle.gaz_ledger.specs.Ledgers.{IsLedger, account_at}
 use Rattle.gaz_ledger.specs.Lives.{IsFreeFrom, IsLifeWithin, LivesAt, with_life}
 use Rattle.gaz_ledger.specs.Passages.{RestoresPassage, SameItems, with_passage, with_passed}
@@ -83,9 +83,9 @@ passing_back n c d ks born uprn x life was change =
 before_twice : (vs : ItemVersions) (born : ℕ) (o : Option Item) → before (with_version vs born o) born ≡ before vs born
 before_twice vs born o =
     let late : nat_lt born born ≡ false = grind (arith, nat_tests) in
-    filter-append (λ (e : ItemVersion). nat_lt e.0 born) (before vs born) ((born, o) ∷ [])
+    filter-append (λ (e : Version Item). nat_lt e.0 born) (before vs born) ((born, o) ∷ [])
     ∙ ap (λ b. before (before vs born) born ++ cond b ((born, o) ∷ []) []) late ∙ append-nil (before (before vs born) born)
-    ∙ passes (λ (e : ItemVersion). nat_lt e.0 born) (λ (e : ItemVersion). nat_lt e.0 born) vs ∙ filter_agree _ _ (λ (e : ItemVersion). both e.0) vs
+    ∙ passes (λ (e : Version Item). nat_lt e.0 born) (λ (e : Version Item). nat_lt e.0 born) vs ∙ filter_agree _ _ (λ (e : Version Item). both e.0) vs
   where
     both : (a : ℕ) → (nat_lt a born && nat_lt a born) ≡ nat_lt a born
     both a = grind (arith, nat_tests)

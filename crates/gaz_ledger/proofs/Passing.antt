@@ -1,6 +1,6 @@
 -- Lists of keys, and the keys of the rows that pass a test.
 use Rattle.std.proofs.Common.{◌≡◌, ◌||◌, Bool, true, false, cond, List, [], ◌∷◌, map, refl, sym, ap, subst, ◌∙◌}
-use Rattle.std.specs.Prelude.{Option, Some, None, filter, option_map}
+use Rattle.std.specs.Prelude.{Option, Some, None, filter, is_some, option_map}
 use Rattle.std.specs.Cmp.{tied_itself}
 use Rattle.std.specs.FinMap as finite
 use Rattle.std.specs.FinMap.{find}
@@ -59,6 +59,21 @@ pub same_maps : (xs ys : List Key) → ((q : Key) → has xs q ≡ has ys q) →
 same_maps xs ys same =
     finite.same_map keys_total keys_exact (key_map xs) (key_map ys) (λ q.
     finite.get-from_entries keys_total (alone xs) q ∙ find_alone q xs ∙ ap (λ b. cond b (Some tt) None) (same q) ∙ sym (find_alone q ys) ∙ sym (finite.get-from_entries keys_total (alone ys) q))
+
+-- a key is among those of a map where it has something at it
+among : {X : Type 0} (q : Key) (es : List (Key × X)) → has (keys_of es) q ≡ is_some (find key_cmp q es)
+among q [] = refl
+among q (e ∷ es) = elim (eq_by_cmp key_cmp q e.0) as (λ b. (b || has (keys_of es) q) ≡ is_some (cond b (Some e.1) (find key_cmp q es))) [ true ↦ refl | false ↦ among q es ]
+
+-- the keys of a list are those of the map of them alone
+pub keys_still : (ks : List Key) (q : Key) → has (finite.keys (key_map ks)) q ≡ has ks q
+keys_still ks q =
+    among q (finite.entries (key_map ks))
+    ∙ ap is_some (sym (finite.get-entries (key_map ks) q) ∙ finite.get-from_entries keys_total (alone ks) q ∙ find_alone q ks) ∙ there (has ks q)
+  where
+    there : (b : Bool) → is_some {T = Unit {0}} (cond b (Some tt) None) ≡ b
+    there true = refl
+    there false = refl
 
 pub keys_back : (ks : List Key) → Ascends ks → finite.keys (key_map ks) ≡ ks
 keys_back ks h = ap keys_of (entries_tree (λ a b. refl) keys_total (alone ks) (subst Ascends (sym (keys_alone ks)) h)) ∙ keys_alone ks

@@ -6,7 +6,7 @@ use Rattle.std.specs.FinSet as set
 use Rattle.std.specs.List.{filter_map, list_any}
 use Rattle.std.specs.Map.{lookup}
 use Rattle.std.specs.Ordering.{eq_by_cmp}
-use Rattle.gaz_histories.specs.Histories.{Version, Versions, standing_at, was_used_at}
+use Rattle.gaz_histories.specs.Histories.{Versions, standing_at, was_used_at}
 use Rattle.gaz_records.specs.Keys.{key_cmp}
 use Rattle.gaz_records.specs.declared.item.Item.{Item}
 use Rattle.gaz_records.specs.declared.item.Kind.{Kind}
@@ -15,9 +15,6 @@ use Rattle.gaz_views.specs.View.{View, view_of}
 use Rattle.gaz_views.specs.Words.{comes_after, is_of}
 
 -- the versions of a key at which items stand
-abbrev pub ItemVersion : Type 0
-ItemVersion = Version Item
-
 abbrev pub ItemVersions : Type 0
 ItemVersions = Versions Item
 

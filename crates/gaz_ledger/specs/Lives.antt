@@ -12,7 +12,7 @@ use Rattle.gaz_views.specs.View.{View, with_item, without_key}
 use Rattle.gaz_ledger.specs.Changing.{verdict_in}
 use Rattle.gaz_ledger.specs.KeyHistories.{ChangesAt, KeyHistories, versions_at}
 
--- it is gone by a volume
+-- what goes with a volume, if it goes, is gone by another
 abbrev pub is_gone_by : Option ℕ → ℕ → Bool
 is_gone_by gone t = option_map_or (λ g. nat_le g t) gone false
 
@@ -23,8 +23,8 @@ with_life born gone i t v =
     if nat_lt t born then v
     else (if is_gone_by gone t then without_key (with_item v i) (key_of i) else with_item v i)
 
--- it begins at one of the volumes that are reached, and ends, where it does, at that one or at a
--- later one that is reached too
+-- a life begins at one of the volumes that are reached, and ends, where it does, at that one or at
+-- a later one that is reached too
 pub record IsLifeWithin (reached born : ℕ) (gone : Option ℕ) : Type 0 where
   pub first : 1 ≤ born
   pub begun : born ≤ reached

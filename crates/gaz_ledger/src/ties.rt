@@ -1,6 +1,5 @@
 //! The items that name a BLPU, which are counted when they are asked for.
-ghost use Rattle.std.specs.Prelude.{◌≡◌, ◌+◌, ◌-◌, ◌<◌, ◌^◌, None, OnErr, OnOk};
-ghost use Rattle.std.specs.List.{list_any};
+ghost use Rattle.std.specs.Prelude.{◌≡◌, ◌+◌, ◌-◌, ◌<◌, ◌^◌, None, OnOk};
 ghost use Rattle.std.specs.Option.{IsSome};
 ghost use Rattle.gaz_views.specs.Words.{tied};
 ghost use Rattle.gaz_ledger.specs.KeyHistories.{view_at};

@@ -1,5 +1,5 @@
 //! What is asked of a view, over its entries as they stand.
-ghost use Rattle.std.specs.Prelude.{◌≡◌, ◌≤◌, drop, filter, length, map, take, if◌then◌else◌};
+ghost use Rattle.std.specs.Prelude.{◌≡◌, ◌≤◌, drop, filter, length, map, take};
 ghost use Rattle.std.specs.Prelude.{IfOk, None, option_map};
 ghost use Rattle.std.specs.List.Sorted.{IsStrictlySortedBy};
 ghost use Rattle.gaz_records.specs.Keys.{key_cmp};

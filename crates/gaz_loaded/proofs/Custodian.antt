@@ -8,10 +8,15 @@ use Rattle.sqlite_rules.specs.Lists.{Has}
 use Rattle.gaz_keeper.specs.Board.{Judgement, reached}
 use Rattle.gaz_keeper.specs.Keeper.{Content, Seen}
 use Rattle.gaz_keeper.specs.Received.{Received}
-use Rattle.gaz_loaded.specs.Files.{AreThere, AsManyJudged, Copies, CopiesAll, CopiesOf, HasAll, HasUntil, IsPart, OnlyReads}
+use Rattle.gaz_loaded.specs.Files.{AreThere, AsManyJudged, Copies, CopiesAll, CopiesOf, HasAll, IsPart, OnlyReads}
 use Rattle.gaz_loaded.specs.Telling.{AreAbove, last_of}
 use Rattle.gaz_loaded.proofs.Copied.{copies_nothing, copies_then, has_end, is_still}
 use Rattle.gaz_loaded.proofs.Reading.{reads_then}
+
+-- all volumes that are received of a custodian, from 1 up to this one
+abbrev pub HasUntil : ℕ → ℕ → Received → Received → Type 0
+HasUntil volume c kept now = (v : ℕ) → 1 ≤ v → v ≤ volume → IsSome (map.get kept (c, v))
+    → IsSome (map.get now (c, v))
 
 -- ---- volumes
 

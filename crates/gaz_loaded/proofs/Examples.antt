@@ -147,8 +147,6 @@ files = record {
   not_there = λ all. not_2 (all 2 (inl refl));
   all = λ v low some. some;
   not_all = λ all. none_there (1001, 1) (all 1 (omega arith) there_1);
-  until_none = λ v low high some. absurd (omega arith);
-  not_until_1 = λ all. none_there (1001, 1) (all 1 (omega arith) (omega arith) there_1);
   nothing_yet = record { files = λ p bytes is. let wrong : None ≡ Some bytes = sym (nothing p) ∙ is in cc; verdicts = λ c v low. refl; bare = λ c v. bare v; idle = refl };
   more_than_kept = λ is. let wrong : None ≡ Some [] = sym (nothing (1001, 1)) ∙ is.files (1001, 1) [] a_file in cc;
   read = record {

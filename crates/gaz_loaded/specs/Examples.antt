@@ -7,7 +7,7 @@ use Rattle.gaz_views.specs.View.{empty_view}
 use Rattle.gaz_views.specs.declared.verdict.Verdict.TheVariants.{Applied}
 use Rattle.gaz_keeper.specs.Examples.{first_received, kept_safe, three_files}
 use Rattle.gaz_keeper.specs.Keeper.{Content, empty_content, with_judgement}
-use Rattle.gaz_loaded.specs.Files.{AreAmong, AreThere, HasAll, HasUntil, IsEntered, IsPart}
+use Rattle.gaz_loaded.specs.Files.{AreAmong, AreThere, HasAll, IsEntered, IsPart}
 use Rattle.gaz_loaded.specs.Files.{OnlyReads}
 use Rattle.gaz_loaded.specs.Lives.{IsBehind, IsBy, IsFirst, Told, gone_of, lives_of}
 use Rattle.gaz_loaded.specs.Loading.{IsOfThese}
@@ -68,8 +68,6 @@ pub record WorkedFiles : Type 0 where
   pub not_there : ¬ AreThere 1001 (2 ∷ []) three_files
   pub all : HasAll 1001 three_files three_files
   pub not_all : ¬ HasAll 1001 three_files map.empty
-  pub until_none : HasUntil 0 1001 three_files map.empty
-  pub not_until_1 : ¬ HasUntil 1 1001 three_files map.empty
   pub nothing_yet : IsPart first_received empty_content
   pub more_than_kept : ¬ IsPart empty_content first_received
   pub read : OnlyReads (kept_safe first_received) (kept_safe first_received)

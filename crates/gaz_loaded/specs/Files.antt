@@ -53,12 +53,7 @@ abbrev pub HasAll : ℕ → Received → Received → Type 0
 HasAll c kept now =
     (v : ℕ) → 1 ≤ v → IsSome (map.get kept (c, v)) → IsSome (map.get now (c, v))
 
--- all up to a volume
-abbrev pub HasUntil : ℕ → ℕ → Received → Received → Type 0
-HasUntil volume c kept now = (v : ℕ) → 1 ≤ v → v ≤ volume → IsSome (map.get kept (c, v))
-    → IsSome (map.get now (c, v))
-
--- as many volumes of a custodian are judged
+-- as many volumes of a custodian are judged at hand as in the lower keeper
 abbrev pub AsManyJudged : ℕ → Seen → Seen → Content → Type 0
 AsManyJudged c lower_old lower_new now = lower_old.stands → lower_new.unharmed
     → reached now.board c ≡ reached lower_old.content.board c
@@ -69,7 +64,7 @@ pub record CopiesOf (c : ℕ) (lower_old lower_new : Seen) (old new : Content) :
   pub all : lower_old.stands → lower_new.unharmed → HasAll c lower_old.content.files new.files
   pub judged : AsManyJudged c lower_old lower_new new
 
--- and all of each of these
+-- all of each of these custodians was brought to hand from a keeper
 pub record CopiesAll (codes : List ℕ) (lower_old lower_new : Seen) (old new : Content)
     : Type 0 where
   pub part : lower_old.stands → lower_new.unharmed → IsPart lower_old.content old

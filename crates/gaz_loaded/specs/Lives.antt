@@ -38,12 +38,12 @@ pub record AreOf (all : List Told) (passages : ℕ → List PassageRow) (board :
 abbrev pub gone_of : Option ℕ → ℕ
 gone_of gone = unwrap_or gone never
 
--- it is told at this place or before it
+-- a life is told at this place or before it
 abbrev pub IsBy : Option ℤ → Told → Type 0
 IsBy None x = ⊥
 IsBy (Some place) x = x.place ≤ℤ place
 
--- or behind it
+-- a life is told behind this place, or anywhere where there is none
 abbrev pub IsBehind : Option ℤ → Told → Type 0
 IsBehind None x = ⊤
 IsBehind (Some place) x = place <ℤ x.place
@@ -74,7 +74,7 @@ RestoredIsAtHand = (place : Option ℤ) (all : List Told) (passages : ℕ → Li
     → IsRestored old new x.code x.life.born gone x.life.item
     → AreAtHand (Some x.place) all passages new
 
--- and once all are, the views are those that are kept
+-- once all lives are told, the views are those that are kept
 abbrev pub AllAtHand : Type 0
 AllAtHand = (place : Option ℤ) (all : List Told) (passages : ℕ → List PassageRow)
     → (kept board : Board) → AreOf all passages kept → AreAtHand place all passages board

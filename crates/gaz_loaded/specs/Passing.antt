@@ -12,7 +12,8 @@ use Rattle.gaz_loaded.specs.declared.listed.Passage.{Passage}
 abbrev pub passage_of : PassageRow → Passage
 passage_of p = record { uprn = p.uprn; born = p.born; custody = p.custody }
 
--- it comes behind one that was told: numbers come as they rise, and for each volumes
+-- a row comes behind a passage that was told: of a greater number, or of the same one and born
+-- later
 abbrev pub ComesBehind : Option Passage → PassageRow → Type 0
 ComesBehind None p = ⊤
 ComesBehind (Some x) p = (x.uprn < p.uprn) ⊎ ((x.uprn ≡ p.uprn) × (x.born < p.born))

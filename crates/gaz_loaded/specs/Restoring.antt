@@ -48,7 +48,7 @@ pub record BringsItsPassages (c : ℕ) (passages : ℕ → List PassageRow) (low
       → reached old.board c ≡ reached lower_old.content.board c
       → HasNoneOrAll (passages c) old.board c → HasPassages (passages c) new.board c
 
--- and so do those of each of these
+-- what is judged stays, and the views of each of these custodians have what became of its numbers
 pub record BringsPassages (codes : List ℕ) (passages : ℕ → List PassageRow)
     (lower_old lower_new : Seen) (old new : Content) : Type 0 where
   pub files : new.files ≡ old.files

@@ -5,7 +5,8 @@ use Rattle.gaz_views.proofs.Outcomes.{on_ok}
 use Rattle.gaz_keeper.specs.Keeper.{Broken, Content, Enters, Goes, Idle, IsLeft, IsNotOpen, IsSound, LeavesAtMost, LeavesJust, Progress, Seen}
 use Rattle.gaz_keeper.specs.declared.fault.ShelfFault.{ShelfFault}
 use Rattle.gaz_mirror.specs.InStep.{IsInStep}
-use Rattle.gaz_mirror.specs.Mirroring.{StandsWith, mirrored, progress_with, stands_below}
+use Rattle.gaz_mirror.specs.Mirroring.{StandsWith, mirrored, progress_with}
+use Rattle.gaz_mirror.proofs.Readings.{stands_below}
 use Rattle.gaz_mirror.specs.declared.gathered.Gathered.{Gathered}
 use Rattle.gaz_mirror.proofs.Ahead.{at_some, where_ok}
 use Rattle.gaz_mirror.proofs.Readings.{left_same}

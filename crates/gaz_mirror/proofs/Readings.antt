@@ -5,9 +5,17 @@ use Rattle.gaz_keeper.specs.Keeper.{Broken, Content, Idle, IsLeft, IsNotOpen, Ke
 use Rattle.gaz_keeper.specs.declared.fault.ShelfFault.{ShelfFault}
 use Rattle.gaz_keeper.proofs.Keeping.{keeps_itself, keeps_then}
 use Rattle.gaz_mirror.specs.InStep.{IsAhead, IsInStep}
-use Rattle.gaz_mirror.specs.Mirroring.{StandsWith, mirrored, stands_below}
+use Rattle.gaz_mirror.specs.Mirroring.{StandsWith, mirrored}
 use Rattle.gaz_mirror.specs.declared.gathered.Gathered.{Gathered}
 use Rattle.gaz_mirror.proofs.Then.{further}
+
+-- where a keeper over two stands for its content, the lower one stands for its own
+pub stands_below : {U : Type 0} (seen : U → Seen) (lower : Seen) (upper : Option U)
+    (gathered : Option Gathered) → StandsWith seen lower upper gathered → lower.stands
+stands_below seen lower None None stood = stood
+stands_below seen lower (Some upper) None stood = stood.lower
+stands_below seen lower None (Some gathered) stood = absurd stood
+stands_below seen lower (Some upper) (Some gathered) stood = stood.lower
 
 -- what wasn't broken is as it was
 pub left_same : (p q : Progress) → p ≢ Broken → IsLeft p q → q ≡ p

@@ -29,21 +29,13 @@ StandsWith seen lower (Some upper) None = StandAsOne lower (seen upper)
 StandsWith seen lower None (Some gathered) = ⊥
 StandsWith seen lower (Some upper) (Some gathered) = StandApart lower (seen upper) gathered
 
--- then the lower one does
-pub stands_below : {U : Type 0} (seen : U → Seen) (lower : Seen) (upper : Option U)
-    (gathered : Option Gathered) → StandsWith seen lower upper gathered → lower.stands
-stands_below seen lower None None stood = stood
-stands_below seen lower (Some upper) None stood = stood.lower
-stands_below seen lower None (Some gathered) stood = absurd stood
-stands_below seen lower (Some upper) (Some gathered) stood = stood.lower
-
 -- the lower one's content; while a judgement is gathered, with the upper one's working view
 abbrev pub content_of : {U : Type 0} → (U → Seen) → Content → Option U → Option Gathered → Content
 content_of seen k upper None = k
 content_of seen k None (Some gathered) = k
 content_of seen k (Some upper) (Some gathered) = with_working k (seen upper).content.working
 
--- it is lawful where both are
+-- the content of a keeper over two is lawful where both stand for theirs
 unfoldable pub lawful_with : {U : Type 0} (seen : U → Seen) (lower : Seen) (upper : Option U)
     (gathered : Option Gathered) → StandsWith seen lower upper gathered
     → IsLawful (content_of seen lower.content upper gathered)
@@ -60,8 +52,8 @@ abbrev pub progress_with : Progress → Option Gathered → Progress
 progress_with lower None = lower
 progress_with lower (Some gathered) = Open gathered.code
 
--- it is seen as the lower one, but for the judgement that is gathered above; and it stands for the
--- content only where the upper one does too
+-- a keeper over two is seen as its lower one, but for the judgement that is gathered above; and it
+-- stands for the content only where the upper one does too
 abbrev pub mirrored : {U : Type 0} → (U → Seen) → Seen → Option U → Option Gathered → Seen
 mirrored seen lower upper gathered = record {
   content = content_of seen lower.content upper gathered;

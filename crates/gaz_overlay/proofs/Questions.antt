@@ -21,8 +21,12 @@ use Rattle.gaz_views.specs.Lawful.{IsLawfulView}
 use Rattle.gaz_views.specs.View.{View, was_used}
 use Rattle.gaz_views.specs.Words.{address_of, approved_of, entries, first_of, property_of, is_approved_of, is_approved_on, is_child_of, names}
 use Rattle.gaz_overlay.specs.Laid.{laid, untouched}
-use Rattle.gaz_overlay.specs.Questions.{LaidQuestions, any_with, both, in_order, keys_with, property_at}
+use Rattle.gaz_overlay.specs.Questions.{LaidQuestions, both, in_order, keys_with, property_at}
 use Rattle.gaz_overlay.proofs.Laid.{at_key}
+
+-- an item of a view passes a test
+abbrev any_with : (Item → Bool) → View → Bool
+any_with p v = list_any (λ e. p e.1) (entries v)
 
 -- the keys of an ascending list in order are the list
 ordered : (ks : List Key) → Ascends ks → in_order ks ≡ ks

@@ -43,7 +43,7 @@ is_touched c k = map.contains_key c.touched k
 abbrev pub stood_in : Touched → Key → Stood
 stood_in touched k = option_map_or (λ t. t.stood) (map.get touched k) NoRow
 
--- it had a row
+-- a key had a row
 abbrev pub was_there : Stood → Bool
 was_there NoRow = false
 was_there Past = true

@@ -22,7 +22,7 @@ pub record KeyView : Type 0 where
 abbrev pub key_view : View → Key → KeyView
 key_view v k = record { item = map.get v.items k; used = was_used v k }
 
--- it stood so at a key of the last view; where there was no row, it isn't said whether the key was
+-- this stood at a key of the last view; where there was no row, it isn't said whether the key was
 -- used, since a number that was passed on uses its key too
 abbrev pub IsStood : Stood → KeyView → Type 0
 IsStood NoRow before = before.item ≡ None

@@ -1,7 +1,6 @@
 -- What is asked of a view, answered for a laid view from answers for the last one and the changes.
 use Rattle.std.specs.Prelude.{◌≡◌, ◌||◌, ◌++◌, ℕ, Bool, List, map, filter, Option, option_map}
 use Rattle.std.specs.FinMap as finite
-use Rattle.std.specs.List.{list_any}
 use Rattle.std.specs.Option.{option_and_then}
 use Rattle.gaz_ids.specs.declared.lang.Lang.{Lang}
 use Rattle.gaz_records.specs.Keys.{key_cmp}
@@ -22,10 +21,6 @@ in_order ks = finite.keys (finite.from_entries {X = Unit {0}} {R = key_cmp} (map
 -- the keys of the items that pass a test, in the order of keys
 abbrev pub keys_with : (Item → Bool) → View → List Key
 keys_with p v = map (λ e. e.0) (filter (λ e. p e.1) (entries v))
-
--- an item passes a test
-abbrev pub any_with : (Item → Bool) → View → Bool
-any_with p v = list_any (λ e. p e.1) (entries v)
 
 -- those of the view's keys that the changes haven't used, and those of the changes
 abbrev pub both : View → List Key → List Key → List Key

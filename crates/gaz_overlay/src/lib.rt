@@ -12,6 +12,7 @@ mod passing;
 mod touch;
 mod touches;
 
+pub use merging::in_order;
 pub use overlay::Overlay;
 pub use passage::Passage;
 pub use touch::{NewRow, Stood, Writing};

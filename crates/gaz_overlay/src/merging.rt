@@ -1,5 +1,5 @@
-//! Keys of two lists.
-ghost use Rattle.std.specs.Prelude.{◌≡◌, ◌||◌, ◌++◌, ℕ, IfOk, OnOk};
+//! Keys of lists, in their order.
+ghost use Rattle.std.specs.Prelude.{◌≡◌, ◌||◌, ◌++◌, IfOk, OnOk};
 ghost use Rattle.std.specs.List.Sorted.{IsStrictlySortedBy};
 ghost use Rattle.gaz_records.specs.declared.key.Key.{Key};
 ghost use Rattle.gaz_overlay.specs.Questions.{in_order};
@@ -9,8 +9,15 @@ use gaz_records::Key;
 use std::alloc::{AllocError, Global};
 use std::collections::BTreeSet;
 
+/// The keys, each once, in key order.
+pub fn in_order(alloc: Global, keys: &[Key]) -> Result<Vec<Key>, AllocError>
+    ensures { IfOk result (λ sorted. sorted.items ≡ in_order keys.now) }
+{
+    merged(alloc, keys, &[])
+}
+
 /// The keys of two lists, each once, in key order.
-pub fn merged(alloc: Global, first: &[Key], second: &[Key]) -> Result<Vec<Key>, AllocError>
+pub(crate) fn merged(alloc: Global, first: &[Key], second: &[Key]) -> Result<Vec<Key>, AllocError>
     ensures { IfOk result (λ keys. keys.items ≡ in_order (first.now ++ second.now)) }
 {
     let mut keys = BTreeSet::new(alloc);

@@ -1,5 +1,5 @@
 //! Numbers that a judgement passes on.
-ghost use Rattle.std.specs.Prelude.{◌≡◌, ◌||◌, true, IfOk, OnErr, OnOk};
+ghost use Rattle.std.specs.Prelude.{◌≡◌, true, IfOk, OnErr, OnOk};
 ghost use Rattle.std.specs.FinMap as map;
 ghost use Rattle.std.specs.Option.{IsSome};
 ghost use Rattle.gaz_records.specs.Keys.{key_of};

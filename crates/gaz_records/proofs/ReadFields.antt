@@ -1,6 +1,8 @@
 -- What a field that has its form says is such as the table allows.
 use Rattle.std.proofs.Common.{◌≡◌, ℕ, ◌-◌, Bool, true, false, List, [], refl, arith, subst, Some, None, Ok, Err}
 use Rattle.std.specs.Prelude.{◌==◌, ◌&&◌, nat_le, length, slice_index, slice_range, is_some, Option, option_and_then, option_map, Result, if◌then◌else◌}
+use Rattle.std.specs.Option.{unwrap_or}
+use Rattle.std.specs.Result.{result_ok}
 use Rattle.std.specs.Str.{all_ascii_digits}
 use Rattle.std.specs.Str.Parse.{digits_value}
 use Rattle.std.proofs.lemmas.Bool.Decides.{nat_tests}
@@ -12,74 +14,74 @@ use Rattle.gaz_addressable.specs.Texts.{is_text, text_of}
 use Rattle.gaz_addressable.specs.Objects.{is_text_or_none}
 use Rattle.gaz_addressable.specs.declared.text.TextFault.{TextFault}
 use Rattle.gaz_records.specs.Days.{CivilDay, are_days, date_of, day_le, day_of, ends_by, is_day, no_day}
-use Rattle.gaz_records.specs.Fields.{field, ok_of, value_or}
+use Rattle.gaz_records.specs.Fields.{field}
 use Rattle.gaz_records.specs.Forms.{BlpuStatus, Date, Digits, EndDate, LabelTo, Opt, TextTo, is_blank, not_before, of_blpu, says}
 use Rattle.gaz_records.specs.Labels.{is_label}
 use Rattle.gaz_records.specs.Blpus.{is_parent}
 
 -- a number that was read is in its range
-pub id-fits : (digits low high : ℕ) (t : List ℕ) (o : Option ℕ) → ok_of (read_id digits low high t) ≡ o → is_some o ≡ true
-    → (nat_le low (value_or 0 o) && nat_le (value_or 0 o) high) ≡ true
+pub id-fits : (digits low high : ℕ) (t : List ℕ) (o : Option ℕ) → result_ok (read_id digits low high t) ≡ o → is_some o ≡ true
+    → (nat_le low (unwrap_or o 0) && nat_le (unwrap_or o 0) high) ≡ true
 unfolding read_id
 id-fits digits low high t o e h = grind (arith, nat_tests, e, h)
 
 pub number-fits : (f : List (List ℕ)) (i digits low high : ℕ) → is_some (says (Digits digits low high) f i) ≡ true
-    → (nat_le low (value_or 0 (says (Digits digits low high) f i)) && nat_le (value_or 0 (says (Digits digits low high) f i)) high) ≡ true
+    → (nat_le low (unwrap_or (says (Digits digits low high) f i) 0) && nat_le (unwrap_or (says (Digits digits low high) f i) 0) high) ≡ true
 unfolding says
 number-fits f i digits low high h = id-fits digits low high (field f i) _ refl h
 
-status-fits : (o : Option Status) → is_some (option_and_then of_blpu o) ≡ true → is_some (of_blpu (value_or Approved (option_and_then of_blpu o))) ≡ true
+status-fits : (o : Option Status) → is_some (option_and_then of_blpu o) ≡ true → is_some (of_blpu (unwrap_or (option_and_then of_blpu o) Approved)) ≡ true
 status-fits None h = cc
 status-fits (Some Approved) h = refl
 status-fits (Some Alternative) h = cc
 status-fits (Some Provisional) h = refl
 status-fits (Some Historical) h = refl
 
-pub blpu_status-fits : (f : List (List ℕ)) (i : ℕ) → is_some (says BlpuStatus f i) ≡ true → is_some (of_blpu (value_or Approved (says BlpuStatus f i))) ≡ true
+pub blpu_status-fits : (f : List (List ℕ)) (i : ℕ) → is_some (says BlpuStatus f i) ≡ true → is_some (of_blpu (unwrap_or (says BlpuStatus f i) Approved)) ≡ true
 unfolding says
 blpu_status-fits f i h = status-fits (status_of (field f i)) h
 
-pub label-fits : (f : List (List ℕ)) (i most : ℕ) → is_some (says (LabelTo most) f i) ≡ true → is_label most (value_or [] (says (LabelTo most) f i)) ≡ true
+pub label-fits : (f : List (List ℕ)) (i most : ℕ) → is_some (says (LabelTo most) f i) ≡ true → is_label most (unwrap_or (says (LabelTo most) f i) []) ≡ true
 unfolding says
 label-fits f i most h = by_test (is_label most (field f i)) refl h
   where
-    by_test : (b : Bool) → is_label most (field f i) ≡ b → is_some (if b then Some (field f i) else None) ≡ true → is_label most (value_or [] (if b then Some (field f i) else None)) ≡ true
+    by_test : (b : Bool) → is_label most (field f i) ≡ b → is_some (if b then Some (field f i) else None) ≡ true → is_label most (unwrap_or (if b then Some (field f i) else None) []) ≡ true
     by_test true e h = e
     by_test false e h = cc h
 
 text-read : (most : ℕ) (t v : List ℕ) → text_of most t ≡ Ok v → is_text most v ≡ true
 text-read most t v h = grind (arith, nat_tests, h)
 
-text-known : (most : ℕ) (t : List ℕ) (r : Result (List ℕ) TextFault) → text_of most t ≡ r → is_some (ok_of r) ≡ true → is_text most (value_or [] (ok_of r)) ≡ true
+text-known : (most : ℕ) (t : List ℕ) (r : Result (List ℕ) TextFault) → text_of most t ≡ r → is_some (result_ok r) ≡ true → is_text most (unwrap_or (result_ok r) []) ≡ true
 text-known most t (Ok v) e h = text-read most t v e
 text-known most t (Err x) e h = cc h
 
-pub text-fits : (f : List (List ℕ)) (i most : ℕ) → is_some (says (TextTo most) f i) ≡ true → is_text most (value_or [] (says (TextTo most) f i)) ≡ true
+pub text-fits : (f : List (List ℕ)) (i most : ℕ) → is_some (says (TextTo most) f i) ≡ true → is_text most (unwrap_or (says (TextTo most) f i) []) ≡ true
 unfolding says
 text-fits f i most h = text-known most (field f i) _ refl h
 
 -- a form that may be left empty, where what its field says is such as the table allows
 pub opt-fits : {A : Type 0} (blank : Bool) (o : Option A) (P : Option A → Bool) → P None ≡ true → ((x : A) → o ≡ Some x → P (Some x) ≡ true)
-    → is_some (if blank then Some None else option_map Some o) ≡ true → P (value_or None (if blank then Some None else option_map Some o)) ≡ true
+    → is_some (if blank then Some None else option_map Some o) ≡ true → P (unwrap_or (if blank then Some None else option_map Some o) None) ≡ true
 opt-fits true o P none some h = none
 opt-fits false None P none some h = none
 opt-fits false (Some x) P none some h = some x refl
 
-pub opt_text-fits : (f : List (List ℕ)) (i most : ℕ) → is_some (says (Opt (TextTo most)) f i) ≡ true → is_text_or_none most (value_or None (says (Opt (TextTo most)) f i)) ≡ true
+pub opt_text-fits : (f : List (List ℕ)) (i most : ℕ) → is_some (says (Opt (TextTo most)) f i) ≡ true → is_text_or_none most (unwrap_or (says (Opt (TextTo most)) f i) None) ≡ true
 unfolding says
 opt_text-fits f i most h =
-    opt-fits (is_blank (TextTo most) f i) (ok_of (text_of most (field f i))) (is_text_or_none most) refl (λ x e. known (text_of most (field f i)) refl x e) h
+    opt-fits (is_blank (TextTo most) f i) (result_ok (text_of most (field f i))) (is_text_or_none most) refl (λ x e. known (text_of most (field f i)) refl x e) h
   where
-    known : (r : Result (List ℕ) TextFault) → text_of most (field f i) ≡ r → (x : List ℕ) → ok_of r ≡ Some x → is_text most x ≡ true
+    known : (r : Result (List ℕ) TextFault) → text_of most (field f i) ≡ r → (x : List ℕ) → result_ok r ≡ Some x → is_text most x ≡ true
     known (Ok v) e x same = let is : v ≡ x = cc same in subst (λ (t : List ℕ). is_text most t ≡ true) is (text-read most (field f i) v e)
     known (Err fault) e x same = cc same
 
 pub parent-fits : (f : List (List ℕ)) (i : ℕ) → is_some (says (Opt (Digits 12 1 999_999_999_999)) f i) ≡ true
-    → is_parent (value_or None (says (Opt (Digits 12 1 999_999_999_999)) f i)) ≡ true
+    → is_parent (unwrap_or (says (Opt (Digits 12 1 999_999_999_999)) f i) None) ≡ true
 unfolding says
 parent-fits f i h =
     let digits = Digits 12 1 999_999_999_999 in
-    opt-fits (is_blank digits f i) (ok_of (read_id 12 1 999_999_999_999 (field f i))) is_parent refl
+    opt-fits (is_blank digits f i) (result_ok (read_id 12 1 999_999_999_999 (field f i))) is_parent refl
     (λ x e. id-fits 12 1 999_999_999_999 (field f i) (Some x) e refl) h
 
 -- a date that was read is in the calendar
@@ -107,18 +109,18 @@ date-read t d h =
     && all_ascii_digits (slice_range t 8 10) in
     day-read year month day d (inside formed (day_of year month day) d h)
 
-pub date-known : (t : List ℕ) (o : Option CivilDay) → date_of t ≡ o → is_some o ≡ true → is_day (value_or no_day o) ≡ true
+pub date-known : (t : List ℕ) (o : Option CivilDay) → date_of t ≡ o → is_some o ≡ true → is_day (unwrap_or o no_day) ≡ true
 date-known t (Some d) e h = date-read t d e
 date-known t None e h = cc h
 
-pub day-fits : (f : List (List ℕ)) (i : ℕ) → is_some (says Date f i) ≡ true → is_day (value_or no_day (says Date f i)) ≡ true
+pub day-fits : (f : List (List ℕ)) (i : ℕ) → is_some (says Date f i) ≡ true → is_day (unwrap_or (says Date f i) no_day) ≡ true
 unfolding says
 day-fits f i h = date-known (field f i) _ refl h
 
 -- an end date that was read is in the calendar, and isn't before the start
 pub record EndFits (start end : Option CivilDay) (said : Option (Option CivilDay)) : Type 0 where
-  pub days : are_days (value_or None said) ≡ true
-  pub order : ends_by (value_or no_day start) (value_or None said) ≡ true
+  pub days : are_days (unwrap_or said None) ≡ true
+  pub order : ends_by (unwrap_or start no_day) (unwrap_or said None) ≡ true
 
 ordered : (b : Bool) (s e : CivilDay) → day_le s e ≡ b → is_day e ≡ true → is_some (option_map Some (if b then Some e else None)) ≡ true
     → EndFits (Some s) (Some e) (option_map Some (if b then Some e else None))

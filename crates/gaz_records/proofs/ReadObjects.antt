@@ -1,24 +1,25 @@
 -- An addressable object that five fields say is such as the table allows.
 use Rattle.std.proofs.Common.{◌≡◌, ℕ, Bool, true, false, List, [], ◌∷◌, ◌++◌, refl, arith, subst, Some, None, Ok, Err}
 use Rattle.std.specs.Prelude.{◌&&◌, ◌||◌, not, nat_le, is_none, is_some, Option, Result, if◌then◌else◌}
+use Rattle.std.specs.Result.{result_ok}
+use Rattle.std.specs.Option.{option_flatten, unwrap_or}
 use Rattle.std.proofs.lemmas.Bool.Decides.{nat_tests}
 use Rattle.gaz_ids.specs.Numbers.{read_id}
 use Rattle.gaz_addressable.specs.Texts.{is_text}
 use Rattle.gaz_addressable.specs.HouseNumbers.{HouseNumberValue, house_of, is_number_or_none, is_suffix, suffix_of}
-use Rattle.gaz_addressable.specs.Objects.{ObjectValue, first_of, flattened, is_empty, is_object, is_range_or_none, numbered, object_faults, object_of, range_faults, range_from, range_value, rises_if_there, text_faults, unless}
+use Rattle.gaz_addressable.specs.Objects.{ObjectValue, first_of, is_empty, is_object, is_range_or_none, numbered, object_faults, object_of, range_faults, range_from, range_value, rises_if_there, text_faults, unless}
 use Rattle.gaz_addressable.specs.declared.object.ObjFault.{ObjFault}
-use Rattle.gaz_records.specs.Fields.{ok_of, value_or}
 use Rattle.gaz_records.specs.Forms.{AddressableObject, Opt, is_blank, object_at, says}
 use Rattle.gaz_records.specs.Lpis.{is_secondary, no_object}
 use Rattle.gaz_records.proofs.Both.{and-both}
 use Rattle.gaz_records.proofs.ReadFields.{opt-fits}
 
 -- a house number that was read is from 1 to 9999
-number-read : (t : List ℕ) (n : ℕ) → flattened (house_of t) ≡ Some n → (nat_le 1 n && nat_le n 9999) ≡ true
+number-read : (t : List ℕ) (n : ℕ) → option_flatten (house_of t) ≡ Some n → (nat_le 1 n && nat_le n 9999) ≡ true
 unfolding read_id
 number-read t n h = grind (arith, nat_tests, h)
 
-suffix-read : (t : List ℕ) (s : Option ℕ) → flattened (suffix_of t) ≡ s → is_suffix s ≡ true
+suffix-read : (t : List ℕ) (s : Option ℕ) → option_flatten (suffix_of t) ≡ s → is_suffix s ≡ true
 suffix-read t None h = refl
 suffix-read t (Some c) h = grind (arith, nat_tests, h)
 
@@ -61,7 +62,7 @@ faultless faults made answer h = by_first (first_of faults) refl h
     by_first None e h = record { none = none-holds faults e; same = cc h }
     by_first (Some fault) e h = cc h
 
-started : (a : List ℕ) → is_none (house_of a) ≡ false → is_empty a ≡ false → is_some (flattened (house_of a)) ≡ true
+started : (a : List ℕ) → is_none (house_of a) ≡ false → is_empty a ≡ false → is_some (option_flatten (house_of a)) ≡ true
 started a formed some = grind (arith, nat_tests, formed, some)
 
 range-started : (n s : Option ℕ) (to : Option HouseNumberValue) → is_some n ≡ true → is_some (range_from (numbered n s) to) ≡ true
@@ -81,15 +82,15 @@ there a b c d none some = by_start (is_empty a) refl
   where
     by_start : (start : Bool) → is_empty a ≡ start → is_some (range_value a b c d) ≡ true
     by_start true blank = let suffix = none.1.0 in let end = none.1.1.1.0 in let end_suffix = none.1.1.1.1.0 in grind (arith, nat_tests, some, suffix, end, end_suffix, blank)
-    by_start false filled = range-started (flattened (house_of a)) _ _ (started a none.0 filled)
+    by_start false filled = range-started (option_flatten (house_of a)) _ _ (started a none.0 filled)
 
 -- the house number that two fields say, if any
 house : (number suffix : List ℕ) → Option HouseNumberValue
-house number suffix = numbered (flattened (house_of number)) (flattened (suffix_of suffix))
+house number suffix = numbered (option_flatten (house_of number)) (option_flatten (suffix_of suffix))
 
 house-said : (number suffix : List ℕ) → is_number_or_none (house number suffix) ≡ true
 unfolding house
-house-said number suffix = house-read (flattened (house_of number)) (flattened (suffix_of suffix)) (number-read number) (suffix-read suffix _ refl)
+house-said number suffix = house-read (option_flatten (house_of number)) (option_flatten (suffix_of suffix)) (number-read number) (suffix-read suffix _ refl)
 
 range-said : (a b c d : List ℕ) → NoneHolds (range_faults a b c d) → is_range_or_none (range_value a b c d) ≡ true
 unfolding house
@@ -121,18 +122,18 @@ object-read a b c d e o h =
     let k = faultless (object_faults a b c d e) (record { range = range_value a b c d; text = if is_empty e then None else Some e }) o h in
     subst (λ (o : ObjectValue). is_object o ≡ true) k.same (object-said a b c d e k.none)
 
-ok-read : (a b c d e : List ℕ) (r : Result ObjectValue ObjFault) → object_of a b c d e ≡ r → (o : ObjectValue) → ok_of r ≡ Some o → is_object o ≡ true
+ok-read : (a b c d e : List ℕ) (r : Result ObjectValue ObjFault) → object_of a b c d e ≡ r → (o : ObjectValue) → result_ok r ≡ Some o → is_object o ≡ true
 ok-read a b c d e (Ok made) is o h = let same : made ≡ o = cc h in subst (λ (o : ObjectValue). is_object o ≡ true) same (object-read a b c d e made is)
 ok-read a b c d e (Err fault) is o h = cc h
 
-object-known : (said : Option ObjectValue) → ((o : ObjectValue) → said ≡ Some o → is_object o ≡ true) → is_some said ≡ true → is_object (value_or no_object said) ≡ true
+object-known : (said : Option ObjectValue) → ((o : ObjectValue) → said ≡ Some o → is_object o ≡ true) → is_some said ≡ true → is_object (unwrap_or said no_object) ≡ true
 object-known None known h = cc h
 object-known (Some o) known h = known o refl
 
-pub object-fits : (f : List (List ℕ)) (i : ℕ) → is_some (says AddressableObject f i) ≡ true → is_object (value_or no_object (says AddressableObject f i)) ≡ true
+pub object-fits : (f : List (List ℕ)) (i : ℕ) → is_some (says AddressableObject f i) ≡ true → is_object (unwrap_or (says AddressableObject f i) no_object) ≡ true
 unfolding says
-object-fits f i h = object-known (ok_of (object_at f i)) (ok-read _ _ _ _ _ (object_at f i) refl) h
+object-fits f i h = object-known (result_ok (object_at f i)) (ok-read _ _ _ _ _ (object_at f i) refl) h
 
-pub opt_object-fits : (f : List (List ℕ)) (i : ℕ) → is_some (says (Opt AddressableObject) f i) ≡ true → is_secondary (value_or None (says (Opt AddressableObject) f i)) ≡ true
+pub opt_object-fits : (f : List (List ℕ)) (i : ℕ) → is_some (says (Opt AddressableObject) f i) ≡ true → is_secondary (unwrap_or (says (Opt AddressableObject) f i) None) ≡ true
 unfolding says
-opt_object-fits f i h = opt-fits (is_blank AddressableObject f i) (ok_of (object_at f i)) is_secondary refl (ok-read _ _ _ _ _ (object_at f i) refl) h
+opt_object-fits f i h = opt-fits (is_blank AddressableObject f i) (result_ok (object_at f i)) is_secondary refl (ok-read _ _ _ _ _ (object_at f i) refl) h

@@ -1,6 +1,7 @@
 -- What a field says that was written of a value.
-use Rattle.std.proofs.Common.{◌≡◌, ℕ, ◌+◌, ◌-◌, ◌^◌, ◌<◌, ◌≤◌, true, false, List, length, refl, arith, Some, None, Ok, inl, inr}
+use Rattle.std.proofs.Common.{◌≡◌, ℕ, ◌+◌, ◌-◌, ◌^◌, ◌<◌, ◌≤◌, true, false, List, length, refl, arith, Some, None, Ok, inl, inr, []}
 use Rattle.std.specs.Prelude.{◌==◌, ◌&&◌, nat_le, decimal, is_some, Option}
+use Rattle.std.specs.Option.{unwrap_or}
 use Rattle.std.proofs.lemmas.Bool.{cases_Bool}
 use Rattle.std.proofs.lemmas.Bool.Decides.{nat_tests}
 use Rattle.std.proofs.lemmas.Fmt.{decimal_nonempty}
@@ -15,7 +16,7 @@ use Rattle.gaz_addressable.specs.Objects.{ObjectValue, digits_text, from_of, is_
 use Rattle.gaz_addressable.proofs.Characters.{plain_some}
 use Rattle.gaz_addressable.proofs.Rounds.{object_back}
 use Rattle.gaz_records.specs.Days.{CivilDay, are_days, date_text, end_text, ends_by, is_day}
-use Rattle.gaz_records.specs.Fields.{field, or_empty}
+use Rattle.gaz_records.specs.Fields.{field}
 use Rattle.gaz_records.specs.Forms.{AddressableObject, BlpuStatus, Date, Digits, EndDate, LabelTo, Language, LpiStatus, Opt, TextTo, is_blank, object_at, of_blpu, says}
 use Rattle.gaz_records.specs.Labels.{is_label}
 use Rattle.gaz_records.specs.Blpus.{is_parent, parent_text}
@@ -56,7 +57,7 @@ says-text f i most t at h = rw (at, text-back most t h) refl
 filled : (t : List ℕ) → 0 < length t → (length t == 0) ≡ false
 filled t h = grind (arith, nat_tests, h)
 
-pub says-opt_text : (f : List (List ℕ)) (i most : ℕ) (t : Option (List ℕ)) → field f i ≡ or_empty t → is_text_or_none most t ≡ true → says (Opt (TextTo most)) f i ≡ Some t
+pub says-opt_text : (f : List (List ℕ)) (i most : ℕ) (t : Option (List ℕ)) → field f i ≡ unwrap_or t [] → is_text_or_none most t ≡ true → says (Opt (TextTo most)) f i ≡ Some t
 unfolding says
 says-opt_text f i most None at h = rw at refl
 says-opt_text f i most (Some t) at h =
@@ -107,7 +108,7 @@ not_blank a b c d e o h = elim (cases_Bool ((length a == 0) && (length b == 0) &
 ]
 
 pub says-opt_object : (f : List (List ℕ)) (i : ℕ) (o : ObjectValue) → field f i ≡ digits_text (from_of o.range) → field f (i + 1) ≡ letter_text (from_of o.range)
-    → field f (i + 2) ≡ digits_text (to_of o.range) → field f (i + 3) ≡ letter_text (to_of o.range) → field f (i + 4) ≡ or_empty o.text
+    → field f (i + 2) ≡ digits_text (to_of o.range) → field f (i + 3) ≡ letter_text (to_of o.range) → field f (i + 4) ≡ unwrap_or o.text []
     → is_object o ≡ true → says (Opt AddressableObject) f i ≡ Some (Some o)
 unfolding says
 says-opt_object f i o a b c d e h = rw (a, b, c, d, e, not_blank _ _ _ _ _ o (object_back o h), object_back o h) refl

@@ -1,12 +1,12 @@
 -- BLPUs: what their fields say, and how they are written.
 use Rattle.std.specs.Prelude.{ℕ, ◌+◌, ◌&&◌, nat_le, List, [], ◌∷◌, drop, Option, Some, None}
 use Rattle.std.specs.Prelude.{is_some, Result, Bool, true, decimal}
+use Rattle.std.specs.Option.{unwrap_or}
 use Rattle.gaz_ids.specs.Codes.{status_text}
 use Rattle.gaz_ids.specs.declared.status.Status.{Status}
 use Rattle.gaz_ids.specs.declared.status.Status.TheVariants.{Approved}
 use Rattle.gaz_addressable.specs.Objects.{is_text_or_none}
 use Rattle.gaz_records.specs.Days.{CivilDay, are_days, date_text, end_text, ends_by, is_day, no_day}
-use Rattle.gaz_records.specs.Fields.{or_empty, value_or}
 use Rattle.gaz_records.specs.Forms.{BlpuStatus, Date, Digits, EndDate, Opt, TextTo, first_bad}
 use Rattle.gaz_records.specs.Forms.{in_form, of_blpu, says, unless_bad}
 use Rattle.gaz_records.specs.Table.{blpu_table, uprn}
@@ -25,14 +25,14 @@ pub record BlpuValue : Type 0 where
 
 abbrev pub blpu_said : List (List ℕ) → BlpuValue
 blpu_said f = record {
-  uprn = value_or 0 (says uprn f 0);
-  status = value_or Approved (says BlpuStatus f 1);
-  easting = value_or 0 (says (Digits 6 0 700_000) f 2);
-  northing = value_or 0 (says (Digits 7 0 1_300_000) f 3);
-  parent = value_or None (says (Opt uprn) f 4);
-  postcode = value_or None (says (Opt (TextTo 8)) f 5);
-  start = value_or no_day (says Date f 6);
-  end = value_or None (says (Opt EndDate) f 7);
+  uprn = unwrap_or (says uprn f 0) 0;
+  status = unwrap_or (says BlpuStatus f 1) Approved;
+  easting = unwrap_or (says (Digits 6 0 700_000) f 2) 0;
+  northing = unwrap_or (says (Digits 7 0 1_300_000) f 3) 0;
+  parent = unwrap_or (says (Opt uprn) f 4) None;
+  postcode = unwrap_or (says (Opt (TextTo 8)) f 5) None;
+  start = unwrap_or (says Date f 6) no_day;
+  end = unwrap_or (says (Opt EndDate) f 7) None;
 }
 
 -- the BLPU that fields say, or what is wrong with them
@@ -43,13 +43,13 @@ read_blpu f = in_form blpu_table f (blpu_said f)
 abbrev pub behind_said : ℕ → List (List ℕ) → ℕ → BlpuValue
 behind_said number f i = record {
   uprn = number;
-  status = value_or Approved (says BlpuStatus f i);
-  easting = value_or 0 (says (Digits 6 0 700_000) f (i + 1));
-  northing = value_or 0 (says (Digits 7 0 1_300_000) f (i + 2));
-  parent = value_or None (says (Opt uprn) f (i + 3));
-  postcode = value_or None (says (Opt (TextTo 8)) f (i + 4));
-  start = value_or no_day (says Date f (i + 5));
-  end = value_or None (says (Opt EndDate) f (i + 6));
+  status = unwrap_or (says BlpuStatus f i) Approved;
+  easting = unwrap_or (says (Digits 6 0 700_000) f (i + 1)) 0;
+  northing = unwrap_or (says (Digits 7 0 1_300_000) f (i + 2)) 0;
+  parent = unwrap_or (says (Opt uprn) f (i + 3)) None;
+  postcode = unwrap_or (says (Opt (TextTo 8)) f (i + 4)) None;
+  start = unwrap_or (says Date f (i + 5)) no_day;
+  end = unwrap_or (says (Opt EndDate) f (i + 6)) None;
 }
 
 -- the BLPU of a number and of the fields behind it, or what is wrong with these
@@ -64,7 +64,7 @@ parent_text (Some n) = decimal n
 abbrev pub texts_behind : BlpuValue → List (List ℕ)
 texts_behind x =
     status_text x.status ∷ decimal x.easting ∷ decimal x.northing ∷ parent_text x.parent
-    ∷ or_empty x.postcode ∷ date_text x.start ∷ end_text x.end ∷ []
+    ∷ unwrap_or x.postcode [] ∷ date_text x.start ∷ end_text x.end ∷ []
 
 -- the texts of its fields
 abbrev pub blpu_texts : BlpuValue → List (List ℕ)

@@ -1,27 +1,14 @@
 -- The fields of a record, and what a reading of them may answer.
 use Rattle.std.specs.Prelude.{◌≡◌, ◌⊎◌, ℕ, ◌+◌, ◌==◌, List, [], length, Option, Some, None, Result}
 use Rattle.std.specs.Prelude.{Ok, Err, if◌then◌else◌}
+use Rattle.std.specs.Option.{unwrap_or}
 use Rattle.csv.specs.Records.{field_at}
 use Rattle.gaz_records.specs.declared.fields.FieldFault.{FieldFault}
 use Rattle.gaz_records.specs.declared.fields.FieldFault.TheVariants as fault
 
-abbrev pub or_empty : Option (List ℕ) → List ℕ
-or_empty None = []
-or_empty (Some t) = t
-
 -- the field at a place, from 0; a missing one is empty
 abbrev pub field : List (List ℕ) → ℕ → List ℕ
-field row i = or_empty (field_at row i)
-
--- the value of a reading that went well
-abbrev pub ok_of : {A E : Type 0} → Result A E → Option A
-ok_of (Ok x) = Some x
-ok_of (Err e) = None
-
--- the value, which is there where all forms fit
-abbrev pub value_or : {A : Type 0} → A → Option A → A
-value_or otherwise None = otherwise
-value_or otherwise (Some x) = x
+field row i = unwrap_or (field_at row i) []
 
 -- nothing where there are so many fields
 abbrev pub counted : ℕ → List (List ℕ) → Result Unit FieldFault

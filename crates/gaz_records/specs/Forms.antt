@@ -2,6 +2,8 @@
 use Rattle.std.specs.Prelude.{ℕ, ◌+◌, ◌-◌, ◌==◌, ◌&&◌, List, [], ◌∷◌, length, Option, Some, None}
 use Rattle.std.specs.Prelude.{is_some, option_map, option_and_then, Result, Ok, Err, if◌then◌else◌}
 use Rattle.std.specs.Prelude.{Bool}
+use Rattle.std.specs.Option.{unwrap_or}
+use Rattle.std.specs.Result.{result_ok}
 use Rattle.gaz_ids.specs.Numbers.{read_id}
 use Rattle.gaz_ids.specs.Codes.{lang_of, status_of}
 use Rattle.gaz_ids.specs.declared.lang.Lang.{Lang}
@@ -12,7 +14,7 @@ use Rattle.gaz_addressable.specs.Texts.{text_of}
 use Rattle.gaz_addressable.specs.Objects.{ObjectValue, object_of}
 use Rattle.gaz_addressable.specs.declared.object.ObjFault.{ObjFault}
 use Rattle.gaz_records.specs.Days.{CivilDay, date_of, day_le, no_day}
-use Rattle.gaz_records.specs.Fields.{field, ok_of, value_or}
+use Rattle.gaz_records.specs.Fields.{field}
 use Rattle.gaz_records.specs.Labels.{label_of}
 use Rattle.gaz_records.specs.declared.fields.FieldFault.{FieldFault}
 use Rattle.gaz_records.specs.declared.reading_codes.Dates.{Dates}
@@ -101,17 +103,17 @@ is_blank (Opt form) f i = is_blank form f i
 
 -- what the field at a place says, where it has the form
 unfoldable pub says : (form : Form) → List (List ℕ) → ℕ → Option (Said form)
-says (Digits digits low high) f i = ok_of (read_id digits low high (field f i))
+says (Digits digits low high) f i = result_ok (read_id digits low high (field f i))
 says Language f i = lang_of (field f i)
 says BlpuStatus f i = option_and_then of_blpu (status_of (field f i))
 says LpiStatus f i = status_of (field f i)
 says (LabelTo most) f i = label_of most (field f i)
-says (TextTo most) f i = ok_of (text_of most (field f i))
+says (TextTo most) f i = result_ok (text_of most (field f i))
 says Date f i = date_of (field f i)
 says EndDate f i =
     option_and_then (λ start. option_and_then (not_before start) (date_of (field f i)))
     (date_of (field f (i - 1)))
-says AddressableObject f i = ok_of (object_at f i)
+says AddressableObject f i = result_ok (object_at f i)
 says (Opt form) f i = if is_blank form f i then Some None else option_map Some (says form f i)
 
 -- the first field, from 1, that hasn't its form
@@ -132,8 +134,8 @@ unless_bad (Some n) x = Err (fault.Form n)
 -- what a date and the end date behind it say
 abbrev pub dates_said : List (List ℕ) → ℕ → Dates
 dates_said f i = record {
-  start = value_or no_day (says Date f i);
-  end = value_or None (says (Opt EndDate) f (i + 1));
+  start = unwrap_or (says Date f i) no_day;
+  end = unwrap_or (says (Opt EndDate) f (i + 1)) None;
 }
 
 -- a date and the end date behind it, or what is wrong with them

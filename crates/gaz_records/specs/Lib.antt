@@ -16,3 +16,4 @@ pub mod Items
 pub mod Keys
 pub mod SortKeys
 pub mod KeyTies
+pub mod WorkedFields

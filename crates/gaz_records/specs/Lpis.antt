@@ -1,6 +1,7 @@
 -- LPIs: what their fields say, and how they are written.
 use Rattle.std.specs.Prelude.{ℕ, ◌&&◌, List, [], ◌∷◌, ◌++◌, Option, Some, None, Result, Bool, true}
 use Rattle.std.specs.Prelude.{decimal}
+use Rattle.std.specs.Option.{unwrap_or}
 use Rattle.gaz_ids.specs.Codes.{lang_text, status_text}
 use Rattle.gaz_ids.specs.declared.lang.Lang.{Lang}
 use Rattle.gaz_ids.specs.declared.lang.Lang.TheVariants.{Eng}
@@ -8,7 +9,6 @@ use Rattle.gaz_ids.specs.declared.status.Status.{Status}
 use Rattle.gaz_ids.specs.declared.status.Status.TheVariants.{Approved}
 use Rattle.gaz_addressable.specs.Objects.{ObjectValue, is_object, texts_of}
 use Rattle.gaz_records.specs.Days.{CivilDay, are_days, date_text, end_text, ends_by, is_day, no_day}
-use Rattle.gaz_records.specs.Fields.{value_or}
 use Rattle.gaz_records.specs.Forms.{AddressableObject, Date, EndDate, LabelTo, Language, LpiStatus}
 use Rattle.gaz_records.specs.Forms.{Opt, in_form, says}
 use Rattle.gaz_records.specs.Labels.{is_label}
@@ -34,15 +34,15 @@ no_object = record { range = None; text = None }
 
 abbrev pub lpi_said : List (List ℕ) → LpiValue
 lpi_said f = record {
-  key = value_or [] (says (LabelTo 14) f 0);
-  uprn = value_or 0 (says uprn f 1);
-  lang = value_or Eng (says Language f 2);
-  status = value_or Approved (says LpiStatus f 3);
-  usrn = value_or 0 (says usrn f 4);
-  secondary = value_or None (says (Opt AddressableObject) f 5);
-  primary = value_or no_object (says AddressableObject f 10);
-  start = value_or no_day (says Date f 15);
-  end = value_or None (says (Opt EndDate) f 16);
+  key = unwrap_or (says (LabelTo 14) f 0) [];
+  uprn = unwrap_or (says uprn f 1) 0;
+  lang = unwrap_or (says Language f 2) Eng;
+  status = unwrap_or (says LpiStatus f 3) Approved;
+  usrn = unwrap_or (says usrn f 4) 0;
+  secondary = unwrap_or (says (Opt AddressableObject) f 5) None;
+  primary = unwrap_or (says AddressableObject f 10) no_object;
+  start = unwrap_or (says Date f 15) no_day;
+  end = unwrap_or (says (Opt EndDate) f 16) None;
 }
 
 -- the LPI that fields say, or what is wrong with them

@@ -1,6 +1,6 @@
 -- Releases: what their fields say, and how they are written.
 use Rattle.std.specs.Prelude.{ℕ, ◌&&◌, nat_le, List, [], ◌∷◌, Result, Bool, decimal}
-use Rattle.gaz_records.specs.Fields.{value_or}
+use Rattle.std.specs.Option.{unwrap_or}
 use Rattle.gaz_records.specs.Forms.{in_form, says}
 use Rattle.gaz_records.specs.Table.{code, hop, release_table, uprn}
 use Rattle.gaz_records.specs.Blpus.{is_uprn}
@@ -9,9 +9,9 @@ use Rattle.gaz_records.specs.declared.release.Release.{Release}
 
 abbrev pub release_said : List (List ℕ) → Release
 release_said f = record {
-  uprn = value_or 0 (says uprn f 0);
-  to = value_or 0 (says code f 1);
-  hop = value_or 0 (says hop f 2);
+  uprn = unwrap_or (says uprn f 0) 0;
+  to = unwrap_or (says code f 1) 0;
+  hop = unwrap_or (says hop f 2) 0;
 }
 
 -- the release that fields say, or what is wrong with them

@@ -1,7 +1,7 @@
 -- Streets: what their fields say, and how they are written.
 use Rattle.std.specs.Prelude.{ℕ, ◌&&◌, nat_le, List, [], ◌∷◌, Option, None, Result, Bool, decimal}
+use Rattle.std.specs.Option.{unwrap_or}
 use Rattle.gaz_records.specs.Days.{CivilDay, are_days, date_text, end_text, ends_by, is_day, no_day}
-use Rattle.gaz_records.specs.Fields.{value_or}
 use Rattle.gaz_records.specs.Forms.{Date, Digits, EndDate, Opt, in_form, says}
 use Rattle.gaz_records.specs.Table.{street_table, usrn}
 use Rattle.gaz_records.specs.declared.fields.FieldFault.{FieldFault}
@@ -15,10 +15,10 @@ pub record StreetValue : Type 0 where
 
 abbrev pub street_said : List (List ℕ) → StreetValue
 street_said f = record {
-  usrn = value_or 0 (says usrn f 0);
-  sort = value_or 0 (says (Digits 1 1 4) f 1);
-  start = value_or no_day (says Date f 2);
-  end = value_or None (says (Opt EndDate) f 3);
+  usrn = unwrap_or (says usrn f 0) 0;
+  sort = unwrap_or (says (Digits 1 1 4) f 1) 0;
+  start = unwrap_or (says Date f 2) no_day;
+  end = unwrap_or (says (Opt EndDate) f 3) None;
 }
 
 -- the street that fields say, or what is wrong with them

@@ -1,8 +1,8 @@
 -- Cross references: what their fields say, and how they are written.
 use Rattle.std.specs.Prelude.{ℕ, ◌&&◌, List, [], ◌∷◌, Option, None, Result, Bool, decimal}
+use Rattle.std.specs.Option.{unwrap_or}
 use Rattle.gaz_addressable.specs.Texts.{is_text}
 use Rattle.gaz_records.specs.Days.{CivilDay, are_days, date_text, end_text, ends_by, is_day, no_day}
-use Rattle.gaz_records.specs.Fields.{value_or}
 use Rattle.gaz_records.specs.Forms.{Date, EndDate, LabelTo, Opt, TextTo, in_form, says}
 use Rattle.gaz_records.specs.Labels.{is_label}
 use Rattle.gaz_records.specs.Table.{uprn, xref_table}
@@ -20,12 +20,12 @@ pub record XrefValue : Type 0 where
 
 abbrev pub xref_said : List (List ℕ) → XrefValue
 xref_said f = record {
-  key = value_or [] (says (LabelTo 14) f 0);
-  uprn = value_or 0 (says uprn f 1);
-  source = value_or [] (says (LabelTo 6) f 2);
-  reference = value_or [] (says (TextTo 50) f 3);
-  start = value_or no_day (says Date f 4);
-  end = value_or None (says (Opt EndDate) f 5);
+  key = unwrap_or (says (LabelTo 14) f 0) [];
+  uprn = unwrap_or (says uprn f 1) 0;
+  source = unwrap_or (says (LabelTo 6) f 2) [];
+  reference = unwrap_or (says (TextTo 50) f 3) [];
+  start = unwrap_or (says Date f 4) no_day;
+  end = unwrap_or (says (Opt EndDate) f 5) None;
 }
 
 -- the cross reference that fields say, or what is wrong with them

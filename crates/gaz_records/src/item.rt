@@ -58,34 +58,13 @@ fn said(alloc: Global, kind: Kind, fields: &Fields) -> Result<Item, FieldFault>
     ensures { OrMemory result (read_item kind fields.now) }
 {
     match kind {
-        Kind::Street => match Street::read(fields) {
-            Ok(street) => Ok(Item::Street(street)),
-            Err(fault) => Err(fault),
-        },
-        Kind::Descriptor => match Descriptor::read(alloc, fields) {
-            Ok(descriptor) => Ok(Item::Descriptor(descriptor)),
-            Err(fault) => Err(fault),
-        },
-        Kind::Blpu => match Blpu::read(alloc, fields) {
-            Ok(blpu) => Ok(Item::Blpu(blpu)),
-            Err(fault) => Err(fault),
-        },
-        Kind::Xref => match Xref::read(alloc, fields) {
-            Ok(xref) => Ok(Item::Xref(xref)),
-            Err(fault) => Err(fault),
-        },
-        Kind::Lpi => match Lpi::read(alloc, fields) {
-            Ok(lpi) => Ok(Item::Lpi(lpi)),
-            Err(fault) => Err(fault),
-        },
-        Kind::Release => match Release::read(fields) {
-            Ok(release) => Ok(Item::Release(release)),
-            Err(fault) => Err(fault),
-        },
-        Kind::Adopt => match Adopt::read(alloc, fields) {
-            Ok(adopt) => Ok(Item::Adopt(adopt)),
-            Err(fault) => Err(fault),
-        },
+        Kind::Street => Ok(Item::Street(Street::read(fields)?)),
+        Kind::Descriptor => Ok(Item::Descriptor(Descriptor::read(alloc, fields)?)),
+        Kind::Blpu => Ok(Item::Blpu(Blpu::read(alloc, fields)?)),
+        Kind::Xref => Ok(Item::Xref(Xref::read(alloc, fields)?)),
+        Kind::Lpi => Ok(Item::Lpi(Lpi::read(alloc, fields)?)),
+        Kind::Release => Ok(Item::Release(Release::read(fields)?)),
+        Kind::Adopt => Ok(Item::Adopt(Adopt::read(alloc, fields)?)),
     }
 }
 

@@ -2,6 +2,7 @@ ghost use Rattle.gaz_records.specs.Items.{ItemsReadBack, ReadsItems};
 ghost use Rattle.gaz_records.specs.Keys.{KeysAreOrdered};
 ghost use Rattle.gaz_records.specs.Kinds.{IdentifiersReadBack};
 ghost use Rattle.gaz_records.specs.SortKeys.{WorkedSortKeys};
+ghost use Rattle.gaz_records.specs.WorkedFields.{WorkedDates, WorkedFields};
 
 /// An item reads back as the same item, from the texts of its fields and from its row.
 pub fn items_read_back()
@@ -26,4 +27,10 @@ pub fn keys_are_ordered()
 /// Some keys as two numbers.
 pub fn worked_sort_keys()
     ensures { WorkedSortKeys }
+{}
+
+/// What dates, and the fields of a record, say on worked examples.
+pub fn worked_fields()
+    ensures dates { WorkedDates }
+    ensures fields { WorkedFields }
 {}

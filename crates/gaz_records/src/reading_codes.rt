@@ -59,10 +59,7 @@ impl<'a> Fields<'a> {
         requires { i ≤ 16 }
         ensures { TellsField result i (says Language self.now i) }
     {
-        match Lang::read(self.get(i)) {
-            Some(lang) => Ok(lang),
-            None => Err(bad(i)),
-        }
+        Lang::read(self.get(i)).ok_or(bad(i))
     }
 
     #[tactic(auto, unfolding(crate::specs::Forms::says))]
@@ -71,10 +68,7 @@ impl<'a> Fields<'a> {
         requires { i ≤ 16 }
         ensures { TellsField result i (says LpiStatus self.now i) }
     {
-        match Status::read(self.get(i)) {
-            Some(status) => Ok(status),
-            None => Err(bad(i)),
-        }
+        Status::read(self.get(i)).ok_or(bad(i))
     }
 
     #[tactic(auto, unfolding(crate::specs::Forms::says))]
@@ -96,10 +90,7 @@ impl<'a> Fields<'a> {
         requires { i ≤ 16 }
         ensures { TellsField result i (says Date self.now i) }
     {
-        match Day::read(self.get(i)) {
-            Some(day) => Ok(day),
-            None => Err(bad(i)),
-        }
+        Day::read(self.get(i)).ok_or(bad(i))
     }
 
     #[tactic(auto, unfolding(crate::specs::Forms::says))]

@@ -18,10 +18,7 @@ impl<'a> Fields<'a> {
         requires { i ≤ 16 }
         ensures { TellsField result i (says (LabelTo MOST) self.now i) }
     {
-        match Label::read(self.get(i)) {
-            Some(label) => Ok(label),
-            None => Err(bad(i)),
-        }
+        Label::read(self.get(i)).ok_or(bad(i))
     }
 
     #[tactic(auto, unfolding(crate::specs::Forms::says))]

@@ -1,5 +1,4 @@
-ghost use Rattle.std.specs.Prelude.{◌≡◌, ◌++◌, OnOk, true};
-ghost use Rattle.gaz_records.specs.Fields.{OrMemory};
+ghost use Rattle.std.specs.Prelude.{◌≡◌, OnOk, true};
 ghost use Rattle.gaz_records.specs.Releases.{is_release, read_release, release_texts};
 ghost use Rattle.gaz_records.specs.Appending.{AddsLine, Grows};
 

@@ -1,9 +1,9 @@
 ghost use Rattle.std.specs.Prelude.{◌≡◌, ◌++◌, [], ◌∷◌, None, OnOk, decimal};
+ghost use Rattle.std.specs.Option.{unwrap_or};
 ghost use Rattle.std.specs.List.{list_any};
 ghost use Rattle.csv.specs.Writing.{default_writer, escaped, needs_byte};
 ghost use Rattle.gaz_addressable.specs.Objects.{texts_of, digits_text, letter_text};
 ghost use Rattle.gaz_records.specs.Days.{date_text, end_text};
-ghost use Rattle.gaz_records.specs.Fields.{or_empty};
 ghost use Rattle.gaz_records.specs.Blpus.{parent_text};
 ghost use Rattle.gaz_records.specs.Lpis.{secondary_texts};
 ghost use Rattle.gaz_records.specs.Appending.{AddsField, AddsFields, Grows};
@@ -101,7 +101,8 @@ pub fn next_text<const MOST: u64>(
     out: &mut Vec<u8>,
     text: &Option<Text<MOST>>,
 ) -> Result<(), AllocError>
-    ensures row { OnOk result (AddsFields out.old.items out.new.items (or_empty text.now ∷ [])) }
+    ensures row { OnOk result
+        (AddsFields out.old.items out.new.items (unwrap_or text.now [] ∷ [])) }
     ensures kept { Grows out.old.items out.new.items }
 {
     match text {

@@ -1,4 +1,4 @@
-ghost use Rattle.std.specs.Prelude.{◌≡◌, ◌++◌, OnOk, true};
+ghost use Rattle.std.specs.Prelude.{◌≡◌, OnOk, true};
 ghost use Rattle.gaz_records.specs.Streets.{is_street, read_street, street_texts};
 ghost use Rattle.gaz_records.specs.Appending.{AddsLine, Grows};
 

@@ -16,7 +16,7 @@ pub record Extends (old grown : RegisterValue) : Type 0 where
   pub custodians : (code : ℕ) → knows old code ≡ true → knows grown code ≡ true
   pub blocks : (code : ℕ) → knows old code ≡ true → blocks_of grown code ≡ blocks_of old code
 
--- the same blocks in the same order
+-- two lists have the same blocks in the same order
 abbrev pub same_blocks : List (ℕ × ℕ) → List (ℕ × ℕ) → Bool
 same_blocks xs ys = pointwise (λ a b. (a.0 == b.0) && (a.1 == b.1)) xs ys
 

@@ -9,3 +9,4 @@ pub mod Laws
 pub mod Growing
 pub mod GrowthLaws
 pub mod GrowthExamples
+pub mod WorkedReading

@@ -1,5 +1,6 @@
 ghost use Rattle.gaz_register.specs.Laws.{OneOwner, ReadsRegisters, SortsBlocks, SortsCustodians};
 ghost use Rattle.gaz_register.specs.Laws.{TextsTell};
+ghost use Rattle.gaz_register.specs.WorkedReading.{WorkedBlocks, WorkedReading};
 
 /// What a text describes is a register: its codes rise, and no number is in two blocks.
 pub fn reads_registers()
@@ -24,4 +25,10 @@ pub fn sorts_blocks()
 /// The order of custodians keeps the custodians.
 pub fn sorts_custodians()
     ensures { SortsCustodians }
+{}
+
+/// What the reading of a register, and its canonical text, come to on worked examples.
+pub fn worked_reading()
+    ensures blocks { WorkedBlocks }
+    ensures registers { WorkedReading }
 {}

@@ -1,6 +1,6 @@
-ghost use Rattle.std.specs.Prelude.{◌≡◌, ◌∷◌, map, take, IfOk};
+ghost use Rattle.std.specs.Prelude.{◌≡◌, IfOk};
 ghost use Rattle.std.specs.String.{string_bytes};
-ghost use Rattle.gaz_rows.specs.Rows.{line_of, lines_of};
+ghost use Rattle.gaz_rows.specs.Rows.{line_of};
 ghost use Rattle.gaz_register.specs.Texts.{blocks_text, register_text, row_of};
 
 use crate::block::Block;

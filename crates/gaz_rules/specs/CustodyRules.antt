@@ -24,7 +24,7 @@ is_wrong_hop v _ = false
 abbrev pub basis_of : List (ℕ × View) → ℕ → Option View
 basis_of others from = option_map (λ b. b.1) (find (λ b. b.0 == from) others)
 
--- it was released to the custodian at this hop
+-- a number was released to a custodian at a hop
 abbrev pub is_released_to : ℕ → ℕ → Custody → Bool
 is_released_to c hop (Released to h) = (to == c) && (h == hop)
 is_released_to c hop (Adopted from h) = false

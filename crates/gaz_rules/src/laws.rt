@@ -41,8 +41,8 @@ pub fn boards_stay_sound()
     ensures { BoardsStaySound }
 {}
 
-/// A custodian holds the number of every BLPU in its views, whatever other custodians' views are,
-/// and no other holds that number.
+/// A custodian holds the number of every BLPU in its views, whatever other custodians' views are;
+/// and no number is in the own blocks of two custodians of a register.
 pub fn own_numbers_stay()
     ensures { OwnNumbersStay }
 {}

@@ -1,8 +1,9 @@
 -- A keeper around another, as it is seen.
-use Rattle.std.specs.Prelude.{◌≡◌, ◌≤◌, ℕ, Bool, true, false, ◌+◌, ◌-◌, ◌^◌, ◌==◌}
+use Rattle.std.specs.Prelude.{◌≡◌, ◌≤◌, ⊤, ℕ, Bool, true, false, ◌+◌, ◌-◌, ◌^◌, ◌==◌, None, Err}
 use Rattle.std.proofs.Common.{eqb-true, le-add_left, le_of_eq, le_trans, sym}
-use Rattle.gaz_keeper.specs.Keeper.{Broken, Content, Idle, IsLawful, Open, Progress, Seen}
+use Rattle.gaz_keeper.specs.Keeper.{Broken, Content, Goes, Idle, IsLawful, Open, Progress, Seen}
 use Rattle.gaz_keeper.specs.Keeper.{after_abandon}
+use Rattle.gaz_keeper.specs.declared.fault.ShelfFault.{ShelfFault}
 
 -- the progress, where the outer keeper says itself whether a judgement is broken
 abbrev pub progress_around : Bool → Progress → Progress
@@ -43,3 +44,7 @@ around s broken failures = record {
   whole = s.whole;
   left_lawful = s.left_lawful;
 }
+
+-- a judgement over the inner keeper's content broke off, and a failure was counted
+abbrev pub BreaksOff : Content → Seen → Seen → ShelfFault → Type 0
+BreaksOff k old new fault = Goes {T = Unit {0}} old new (Err fault) ⊤ (after_abandon k) None Idle

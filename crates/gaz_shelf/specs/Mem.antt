@@ -44,7 +44,8 @@ lawful_in s = record {
 pub full_in : (failures : ℕ) → (failures == 2 ^ 64 - 1) ≡ true → 2 ^ 64 - 1 ≤ failures
 full_in failures full = le_of_eq (sym (eqb-true failures (2 ^ 64 - 1) full))
 
--- it always stands for its content, and nobody else can write on it; a stop leaves nothing of it
+-- a keeper in memory, as it is seen: it always stands for its content, and nobody else can write on
+-- it; a stop leaves nothing of it
 abbrev pub seen_in : MemShelf → Seen
 seen_in s = record {
   content = content_in s;

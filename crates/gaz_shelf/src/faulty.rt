@@ -1,9 +1,9 @@
 //! A keeper for tests, around another.
 ghost use Rattle.std.specs.Prelude.{◌≡◌, ◌≢◌, ◌≤◌, ◌<◌, ◌-◌, ◌==◌, ◌||◌, if◌then◌else◌, true};
-ghost use Rattle.std.specs.Prelude.{false, ⊤, Some, Err, IfErr, OnErr, OnOk};
+ghost use Rattle.std.specs.Prelude.{false, Some, IfErr, OnErr, OnOk};
 ghost use Rattle.gaz_shelf.specs.Calls.{CountsAs, counted, failure_of, plan_from};
-ghost use Rattle.gaz_shelf.specs.Faulting.{around, progress_around};
-ghost use Rattle.gaz_keeper.specs.Keeper.{Goes, Idle, IsNotOpen, after_abandon};
+ghost use Rattle.gaz_shelf.specs.Faulting.{BreaksOff, around, progress_around};
+ghost use Rattle.gaz_keeper.specs.Keeper.{Idle, IsNotOpen};
 
 use crate::calls::{Calls, Counted, Plan};
 use gaz_keeper::{Inbox, ShelfFault};
@@ -92,10 +92,9 @@ impl<K: Inbox + Drop> Faulty<K> {
     /// Breaks the judgement, where it isn't broken already, and counts a failure.
     pub(crate) fn break_off(&mut self) -> ShelfFault
         requires { progress_around self.old.broken (K.seen self.old.inner).progress ≢ Idle }
-        ensures breaks { let old = around (K.seen self.old.inner) self.old.broken self.old.plan.failures in
-            let new = around (K.seen self.new.inner) self.new.broken self.new.plan.failures in
-            Goes {T = Unit {0}} old new (Err result) ⊤
-            (after_abandon (K.seen self.old.inner).content) None Idle }
+        ensures breaks { BreaksOff (K.seen self.old.inner).content
+            (around (K.seen self.old.inner) self.old.broken self.old.plan.failures)
+            (around (K.seen self.new.inner) self.new.broken self.new.plan.failures) result }
         ensures fault { result ≡ failure_of self.old.plan }
         ensures calls { self.new.plan.calls ≡ self.old.plan.calls }
         ensures left { self.new.plan.left ≡ self.old.plan.left }

@@ -2,10 +2,9 @@ ghost use Rattle.std.specs.Prelude.{◌≡◌, ◌≤◌, ℕ, true, OnOk, OnErr
 ghost use Rattle.std.specs.Prelude.{count_by};
 ghost use Rattle.std.specs.FinMap as map;
 ghost use Rattle.std.specs.BTreeMap.{keys};
-ghost use Rattle.std.specs.List.Sorted.{IsStrictlySortedBy};
 ghost use Rattle.gaz_keeper.specs.Received.{count_above};
 ghost use Rattle.gaz_shelf.specs.Highest.{files_between, is_below, is_between};
-ghost use Rattle.gaz_keeper.specs.Received.{pair_cmp, with_file};
+ghost use Rattle.gaz_keeper.specs.Received.{with_file};
 
 use gaz_ids::{Code, Volume};
 use std::alloc::{AllocError, Global};

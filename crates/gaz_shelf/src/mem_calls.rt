@@ -1,6 +1,5 @@
 //! The calls of a keeper in memory.
 ghost use Rattle.std.specs.Prelude.{IsOk};
-ghost use Rattle.gaz_keeper.specs.Keeper.{Seen};
 ghost use Rattle.gaz_shelf.specs.Mem.{seen_in};
 ghost use Rattle.gaz_keeper.specs.Telling.{TellsEver, TellsHeld, TellsNothing, TellsReached};
 ghost use Rattle.gaz_keeper.specs.Telling.{TellsVerdict};

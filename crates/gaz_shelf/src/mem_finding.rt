@@ -5,7 +5,7 @@ ghost use Rattle.gaz_views.specs.Accounts.{view_in};
 ghost use Rattle.gaz_views.specs.View.{empty_view, was_used};
 ghost use Rattle.gaz_views.specs.Words.{approved_of, approved_on, has_children, property_of};
 ghost use Rattle.gaz_keeper.specs.Board.{reached, verdict_on};
-ghost use Rattle.gaz_keeper.specs.Keeper.{Seen, view_of};
+ghost use Rattle.gaz_keeper.specs.Keeper.{view_of};
 ghost use Rattle.gaz_shelf.specs.Accounts.{account_of};
 ghost use Rattle.gaz_shelf.specs.Mem.{content_in, seen_in};
 ghost use Rattle.gaz_keeper.specs.Telling.{IsItemAt, IsPageAt};

@@ -2,7 +2,7 @@
 ghost use Rattle.std.specs.Prelude.{◌≡◌, ◌≢◌, ◌≤◌, ◌<◌, ◌==◌, ◌^◌, ◌-◌, ℕ, if◌then◌else◌, true};
 ghost use Rattle.std.specs.Prelude.{MatchOption};
 ghost use Rattle.gaz_records.specs.Items.{is_entry};
-ghost use Rattle.gaz_keeper.specs.Keeper.{Broken, Idle, IsNotOpen, Keeps, Open, Seen, view_of};
+ghost use Rattle.gaz_keeper.specs.Keeper.{Broken, Idle, IsNotOpen, Keeps, Open, view_of};
 ghost use Rattle.gaz_shelf.specs.Mem.{progress_of, seen_in};
 ghost use Rattle.gaz_keeper.specs.Telling.{Applies, Puts, Takes};
 

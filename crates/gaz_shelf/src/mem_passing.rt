@@ -4,7 +4,7 @@ ghost use Rattle.std.specs.Option.{IsSome};
 ghost use Rattle.gaz_views.specs.Numbered.{as_blpu};
 ghost use Rattle.gaz_views.specs.View.{custody_at};
 ghost use Rattle.gaz_views.specs.Words.{tied};
-ghost use Rattle.gaz_keeper.specs.Keeper.{Open, Seen, view_of};
+ghost use Rattle.gaz_keeper.specs.Keeper.{Open, view_of};
 ghost use Rattle.gaz_shelf.specs.Mem.{content_in, progress_of, seen_in};
 ghost use Rattle.gaz_keeper.specs.Telling.{Adopts, IsCustodyAt, Releases};
 

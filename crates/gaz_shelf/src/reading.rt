@@ -2,7 +2,6 @@
 ghost use Rattle.std.specs.Prelude.{◌≡◌, ◌+◌, ◌<◌, ◌≤◌, ◌^◌, if◌then◌else◌, IfOk, is_some, vec_len};
 ghost use Rattle.std.specs.Prelude.{true};
 ghost use Rattle.gaz_records.specs.Kinds.{is_entry_kind};
-ghost use Rattle.gaz_keeper.specs.Keeper.{Seen};
 ghost use Rattle.gaz_views.specs.Reading.{next_after};
 ghost use Rattle.gaz_shelf.specs.Reading.{AddsPage, TellsAll};
 

@@ -38,8 +38,8 @@ impl MemShelf {
 
     /// Puts back what became of a number of a custodian at a volume. That is to be reached, and
     /// nothing is to stand at its BLPU's key from then on, which counts as used; else it is
-    /// refused. What became of the number later is to be put back after that. Where memory runs
-    /// out, it may be put back without the key.
+    /// refused. What became of the number later is to be put back after that. After a fault nothing
+    /// is said of the views.
     pub fn restore_passage(
         &mut self,
         code: Code,

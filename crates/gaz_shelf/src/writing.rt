@@ -2,7 +2,7 @@
 ghost use Rattle.std.specs.Prelude.{◌≡◌, ◌≢◌, [], true};
 ghost use Rattle.std.specs.List.{list_all};
 ghost use Rattle.gaz_records.specs.Items.{is_entry};
-ghost use Rattle.gaz_keeper.specs.Keeper.{Idle, IsNotOpen, Refuses, Seen};
+ghost use Rattle.gaz_keeper.specs.Keeper.{Idle, IsNotOpen, Refuses};
 ghost use Rattle.gaz_shelf.specs.Writing.{PutsAll, Writes};
 
 use gaz_ids::Code;

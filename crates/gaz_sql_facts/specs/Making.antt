@@ -39,7 +39,7 @@ abbrev pub told_of : {A : Type 0} → (Statement → Option A) → Checked Parse
 told_of tells (Ok p) = tells p.statement
 told_of tells (Err e) = None
 
--- the same of a text, if it is such a statement
+-- the name of the table that a text makes, if it is one such statement
 abbrev pub table_made : List ℕ → Option Name
 table_made text = told_of table_of (first text)
 

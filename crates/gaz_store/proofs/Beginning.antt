@@ -23,19 +23,20 @@ use Rattle.gaz_store.specs.Migrating.{IsMoved}
 use Rattle.gaz_store.specs.Opened.{IsMade, IsOpened}
 use Rattle.gaz_store.specs.Remembered.{AreSo, Remembered}
 use Rattle.gaz_store.specs.Store.{StoreStands, seen_beside}
+use Rattle.gaz_store.specs.declared.progress.Judging.{Judging}
 use Rattle.gaz_store.specs.declared.progress.Judging.TheVariants.{Idle}
 use Rattle.gaz_kept.proofs.LawfulViews.{content_lawful}
 use Rattle.gaz_kept.proofs.SameTrees.{same_content}
 use Rattle.gaz_store.proofs.Whole.{kept_of, whole_still}
 
-module _ (new : State) (a : Remembered) (so : (files : List Row) → AreSo a files) where
+module _ (new : State) (a : Remembered) (so : (files : List Row) → AreSo a files) (j : Judging) (idle : j ≡ Idle) where
   standing : (register : List ℕ) → IsKept new.now → IsOf register (rows_of new.now meta) → StoreStands register new a Idle
   standing register kept whose = record { tables = record { kept = kept; whose = whose; so = so (rows_of new.now received); lawful = content_lawful new.now kept empty_view lawful_empty }; beside = tt }
 
   pub is_made : (old : State) (register : List ℕ) (f : ℕ) → f ≡ 0
       → (HasCleanDisk new → IsTrue new.is_open) → (HasCleanDisk new → HasRoom old.now.schema → IsNewStore schema_number register old.now new.now × (new.committed ≡ new.now)) → LeavesTheCommit new
-      → IsMade old new register (seen_beside register new a Idle f)
-  is_made old register f none opened made certain = record {
+      → IsMade old new register (seen_beside register new a j f)
+  is_made old register f none opened made certain = subst (λ k. IsMade old new register (seen_beside register new a k f)) (sym idle) (record {
     idle = refl;
     failures = none;
     is_open = opened;
@@ -49,12 +50,12 @@ module _ (new : State) (a : Remembered) (so : (files : List Row) → AreSo a fil
         (tables_stand.create schema_number register old.now new.now (made h.clean room).0).kept (create_opens register old.now new.now (made h.clean room).0);
     of_register = λ h room. create_opens register old.now new.now (made h.clean room).0;
     others = λ h room. (made h.clean room).0.others;
-  }
+  })
 
   pub is_opened : (old : State) (register : List ℕ) (f : ℕ) → f ≡ 0
       → (HasCleanDisk new → HasCleanDisk old) → (HasCleanDisk new → Rests old new) → (HasCleanDisk new → IsKept old.now → IsOf register (rows_of old.now meta)) → Survives old new (λ _. ⊥)
-      → IsOpened old new register (seen_beside register new a Idle f)
-  is_opened old register f none harm rests told leaves = record {
+      → IsOpened old new register (seen_beside register new a j f)
+  is_opened old register f none harm rests told leaves = subst (λ k. IsOpened old new register (seen_beside register new a k f)) (sym idle) (record {
     idle = refl;
     failures = none;
     harm = λ h. harm h.clean;
@@ -66,13 +67,13 @@ module _ (new : State) (a : Remembered) (so : (files : List Row) → AreSo a fil
     of_register = λ h kept. told h.clean kept;
     leaves = leaves;
     whole = whole_still register old new leaves;
-  }
+  })
 
   pub is_moved : (old : State) (register : List ℕ) (f : ℕ) → f ≡ 0
       → (HasCleanDisk new → HasCleanDisk old) → (HasCleanDisk new → HasFirstTables old.now → Migrates schema_number register old.now new.now × (new.committed ≡ new.now))
       → (HasCleanDisk new → HasFirstTables old.now → IsOfFirst register (rows_of old.now meta)) → (HasFirstTables old.now → LeavesTheCommit new)
-      → IsMoved old new register (seen_beside register new a Idle f)
-  is_moved old register f none harm moves whose certain = record {
+      → IsMoved old new register (seen_beside register new a j f)
+  is_moved old register f none harm moves whose certain = subst (λ k. IsMoved old new register (seen_beside register new a k f)) (sym idle) (record {
     idle = refl;
     failures = none;
     harm = λ h. harm h.clean;
@@ -86,7 +87,7 @@ module _ (new : State) (a : Remembered) (so : (files : List Row) → AreSo a fil
     whole = λ h first trees clean left.
         kept_of register new.now trees (certain first.tables h.is_open trees left ∙ ap (λ d. d.trees) (moves h.clean first.tables).1)
         (stood h.clean first).kept (still_of h.clean first);
-  }
+  })
     where
       stood : HasCleanDisk new → IsFirstKept old.now → Stands new.now empty_view (first_content_in old.now empty_view)
       stood clean first = migration_stands.stands register empty_view old.now new.now first (moves clean first.tables).0

@@ -1,5 +1,5 @@
 -- What a call that writes the tables tells of them as they are seen.
-use Rattle.std.proofs.Common.{◌≡◌, ◌≢◌, ◌⊎◌, ◌∙◌, ◌≤◌, ◌+◌, inl, inr, ℕ, List, Result, Ok, Err, OnErr, OnOk, arith, sym, ap, subst}
+use Rattle.std.proofs.Common.{◌≡◌, ◌≢◌, ◌⊎◌, ◌∙◌, ◌≤◌, ◌+◌, ◌-◌, ◌^◌, ◌==◌, inl, inr, ℕ, List, Result, Ok, Err, OnErr, OnOk, arith, sym, ap, subst}
 use Rattle.std.specs.Prelude.{IsSome, IsTrue}
 use Rattle.std.specs.FinMap as finite
 use Rattle.sqlite.specs.Effect.{Database}
@@ -9,7 +9,7 @@ use Rattle.sqlite_trees.specs.Tree.{Trees}
 use Rattle.sqlite_trees.specs.declared.store.Store.{Ghosts}
 use Rattle.gaz_views.specs.View.{View, empty_view}
 use Rattle.gaz_keeper.specs.Board.{reached}
-use Rattle.gaz_keeper.specs.Keeper.{Broken, Content, Enters, IsAtHand, IsLawful, IsLeft, IsNew, Progress, after_skip, after_stop, with_received}
+use Rattle.gaz_keeper.specs.Keeper.{Broken, Content, Enters, IsAtHand, IsLawful, IsLeft, IsNew, Progress, Seen, after_skip, after_stop, with_received}
 use Rattle.gaz_keeper.specs.declared.fault.ShelfFault.{ShelfFault}
 use Rattle.gaz_tables.specs.Schema.{meta, received, version2}
 use Rattle.gaz_tables.specs.Stores.{HasTables}
@@ -25,12 +25,29 @@ use Rattle.gaz_kept.proofs.SameTrees.{same_content}
 use Rattle.gaz_store.specs.Altering.{Alters, MayWrite, Writes}
 use Rattle.gaz_store.specs.Asking.{Tallies}
 use Rattle.gaz_store.specs.Remembered.{AreSo, Remembered}
-use Rattle.gaz_store.specs.Seen.{IsUnharmed, MayLeave, StandsFor, seen_of}
+use Rattle.gaz_store.specs.Seen.{IsUnharmed, LeavesKept, MayLeave, StandsFor, full_at, left_lawful}
 use Rattle.gaz_store.specs.Writing.{Comes, IsNewIn, IsNextIn, RejectsNext, WhereSo}
 use Rattle.gaz_store.specs.declared.tables.Tables.{Tables}
 use Rattle.gaz_store.proofs.Lawful.{received_lawful, skipped_lawful}
 use Rattle.gaz_store.proofs.Whole.{kept_of, whole_then}
 use Rattle.gaz_store.proofs.Whose.{of_files}
+
+-- a connection to a store of this register, with what is at hand and a judgement beside it, and so many failures
+abbrev pub seen_of : List ℕ → State → Remembered → Progress → View → ℕ → Seen
+seen_of register s at_hand progress working failures = record {
+  content = content_in s.now working;
+  stands = StandsFor register s at_hand working;
+  lawful = λ stood. stood.lawful;
+  trusted = HasCleanDisk s;
+  unharmed = IsUnharmed s;
+  progress = progress;
+  failures = failures;
+  is_full = failures == 2 ^ 64 - 1;
+  full = full_at failures;
+  leaves = MayLeave s;
+  whole = LeavesKept register s;
+  left_lawful = left_lawful register s;
+}
 
 module _ {T : Type 0} (register : List ℕ) (old new : State) (before after : Remembered) (p q : Progress) (w : View) (f g : ℕ) (r : Result T ShelfFault) (Becomes : Database → Database → Type 0)
     (asked : Type 0) (becomes : Content)

@@ -31,7 +31,7 @@ use Rattle.gaz_store.specs.Altering.{Alters, AltersTables}
 use Rattle.gaz_store.specs.Asking.{Asks, AsksTables, IsAnyway}
 use Rattle.gaz_store.specs.Growing.{IsKeptOfEither, KeepsContent, LeavesEither, TellsRegisters, TellsWhose, as_keeper, as_kept, of_keeper, register_then}
 use Rattle.gaz_store.specs.Remembered.{AreSo, Remembered}
-use Rattle.gaz_store.specs.Seen.{IsUnharmed, LeavesKept, MayLeave, StandsFor, seen_of}
+use Rattle.gaz_store.specs.Seen.{IsUnharmed, LeavesKept, MayLeave, StandsFor}
 use Rattle.gaz_store.specs.Store.{cleared, progress_of, seen_beside, seen_in, working_of}
 use Rattle.gaz_store.specs.declared.growing.ExtendFault.{ExtendFault}
 use Rattle.gaz_store.specs.declared.progress.Judging.{Judging}
@@ -39,6 +39,7 @@ use Rattle.gaz_store.specs.declared.progress.Judging.TheVariants.{Idle, Open, Br
 use Rattle.gaz_store.specs.declared.store.Store.{Store}
 use Rattle.gaz_store.specs.declared.tables.Tables.{Tables}
 use Rattle.gaz_store.proofs.Altering.{alters_then}
+use Rattle.gaz_store.proofs.Entering.{seen_of}
 use Rattle.gaz_store.proofs.Seeing.{tallies_then}
 use Rattle.gaz_store.proofs.StoreReads.{left_cleared, not_broken}
 use Rattle.gaz_store.proofs.Whole.{kept_of}

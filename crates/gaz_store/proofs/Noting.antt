@@ -2,12 +2,18 @@
 use Rattle.std.proofs.Common.{◌≡◌, ◌≢◌, ℕ, Bool, true, false, refl, sym, subst}
 use Rattle.std.specs.Prelude.{Option, Some, None, IfSome}
 use Rattle.std.specs.BTreeMap.{Updates, get, is_at}
-use Rattle.std.specs.Ordering.{nat_cmp}
+use Rattle.std.specs.Ordering.{is_eq, nat_cmp}
+use Rattle.std.specs.declared.cmp.Ordering.{Ordering}
+use Rattle.std.specs.declared.cmp.Ordering.TheVariants.{Less, Equal, Greater}
 use Rattle.std.proofs.lemmas.Map.Lookups.{exact_unsigned}
 use Rattle.gaz_store.specs.Remembered.{Recounts, Remembered}
 use Rattle.gaz_store.specs.declared.at_hand.AtHand.{AtHand}
-use Rattle.gaz_store.proofs.Recalling.{is_equal}
-use Rattle.gaz_store.proofs.Recounting.{if_some}
+use Rattle.gaz_store.proofs.Recalling.{if_some}
+
+is_equal : (o : Ordering) → is_eq o ≡ true → o ≡ Equal
+is_equal Less e = cc
+is_equal Equal e = refl
+is_equal Greater e = cc
 
 itself : {X : Type 0} (o : Option X) → IfSome o (λ x. o ≡ Some x)
 itself (Some x) = refl

@@ -1,6 +1,7 @@
 -- A page of rows is a page of the view.
 use Rattle.std.proofs.Common.{◌≡◌, ◌∙◌, ◌≤◌, ◌<◌, ◌&&◌, ℕ, Bool, true, false, cond, List, [], ◌∷◌, ◌++◌, filter, length, map, take, refl, sym, ap, subst, arith, true≢false}
 use Rattle.std.specs.Prelude.{Option, Some, None}
+use Rattle.std.specs.Result.{result_ok}
 use Rattle.std.proofs.lemmas.Bool.Decides.{nat_tests}
 use Rattle.std.proofs.lemmas.List.{length-append, length-map, length-take, take_all}
 use Rattle.std.specs.Ordering.{is_gt, is_lt, nat_cmp, ordering_reverse, ordering_then}
@@ -12,7 +13,6 @@ use Rattle.sqlite.specs.Order.{Row}
 use Rattle.sqlite_rules.specs.Lists.{Has}
 use Rattle.gaz_ids.specs.Codes.{lang_text}
 use Rattle.gaz_records.proofs.LabelOrder.{greater, less}
-use Rattle.gaz_records.specs.Fields.{ok_of}
 use Rattle.gaz_records.specs.Items.{item_of_text, kind_of}
 use Rattle.gaz_records.specs.Keys.{key_cmp, kind_number, number_in, text_in as text_of}
 use Rattle.gaz_records.specs.Labels.{label_cmp}
@@ -108,9 +108,9 @@ module _ (db : Database) (kept : IsKept db) (c t : ℕ) (k : Kind) (kind_entry :
   reads r x there h same =
       let version = kept.rows r there in
       let body = (fits x (said_known r version x h.item) (said_entry r version x h.item)).body in
-      (λ i. ok_of (item_of_text (sym same i) (text_in (table.body_of r))))
-      ∙ (λ i. ok_of (item_of_text (kind_of x) ((sym (said_cells r version x h.item) i).body)))
-      ∙ ap ok_of body
+      (λ i. result_ok (item_of_text (sym same i) (text_in (table.body_of r))))
+      ∙ (λ i. result_ok (item_of_text (kind_of x) ((sym (said_cells r version x h.item) i).body)))
+      ∙ ap result_ok body
 
   pub page_told : FindsHolding c (number_of k) start t most (rows_of db version2) answer → (items : List Item) → SayItems k answer items → items ≡ page v k after most
   page_told found items say =

@@ -161,10 +161,10 @@ module _ (db : Database) (kept : IsKept db) (c : ℕ) where
       let whole = some_same (passing (number_in (table.born_of r)) (number_in (table.gone_of r)) (s.number, s.custody)) p (said.passage_of c r s (its_owner c r p o.said)) o.said in
       let named : key_named kind.Blpu (text_in (table.id_of r)) ≡ Some (key.Blpu p.uprn) = ap (λ (v : Value). key_named kind.Blpu (text_in v)) k.birth.of_key.of_id ∙ ids_back (key.Blpu p.uprn) k.number in
       let number = numbers_same x.uprn p.uprn (some_same (key.Blpu x.uprn) (key.Blpu p.uprn) says.number named) in
-      let values : Int (pos x.born) ≡ Int (pos p.born) = sym says.born ∙ k.birth.of_born in
+      let values : Int (pos x.born) ≡ Int (pos p.born) = sym says.passed.born ∙ k.birth.of_born in
       let born : x.born ≡ p.born = cc in
       let told : told_in (custody_cells_in r) ≡ Some s.custody = ap told_in (sym s.follows.cells) ∙ told_back s.number s.custody s.follows.such in
-      let custody : x.custody ≡ p.custody = some_same x.custody s.custody says.custody told ∙ ap (λ (h : PassageRow). h.custody) whole in
+      let custody : x.custody ≡ p.custody = some_same x.custody s.custody says.passed.custody told ∙ ap (λ (h : PassageRow). h.custody) whole in
       λ i. record { uprn = number i; born = born i; custody = custody i }
 
   abbrev AreFrom : Option Passage → List Row → Type 0

@@ -1,6 +1,6 @@
 -- What is at hand stays so when a file comes and when a volume is judged.
 use Rattle.std.proofs.Common.{◌≡◌, ◌≢◌, ◌≤◌, ◌<◌, ◌+◌, ◌⊎◌, ◌∙◌, ◌&&◌, ◌||◌, ◌==◌, inl, inr, ℕ, Bool, true, false, cond, not, List, [], ◌∷◌, length, refl, sym, ap, subst, arith, eqb-true}
-use Rattle.std.specs.Prelude.{Option, Some, None, IfSome, IsSome, is_some, nat_le}
+use Rattle.std.specs.Prelude.{Option, Some, None, IfSome, IsSome, is_some, nat_le, option_map}
 use Rattle.std.proofs.Math.Bool.{and-false}
 use Rattle.std.proofs.lemmas.Bool.{cases_eq, le-leb, leb-true, ne_eqb}
 use Rattle.std.proofs.lemmas.Bool.Decides.{leb_tells}
@@ -28,7 +28,7 @@ use Rattle.gaz_store.specs.declared.at_hand.AtHand.{AtHand}
 use Rattle.gaz_store.proofs.Counts.{above_true, counts_one_more, counts_same, is_above, is_same, same, waits}
 use Rattle.gaz_kept.proofs.Judging.{files_change}
 use Rattle.gaz_kept.proofs.Stands.{are_files}
-use Rattle.gaz_store.proofs.Recalling.{if_some_at}
+use Rattle.gaz_store.proofs.Recalling.{if_some, if_some_at}
 use Rattle.gaz_store.proofs.Waiting.{judged_there}
 
 abbrev Pair : Type 0
@@ -100,16 +100,12 @@ judged_here files c n there = counts_one_more files files c (n + 1) n (c, n + 1)
 
 -- ---- what is at hand
 
-pub if_some : {X : Type 0} (o : Option X) (P Q : X → Type 0) → ((x : X) → o ≡ Some x → P x → Q x) → IfSome o P → IfSome o Q
-if_some (Some x) P Q f h = f x refl h
-if_some None P Q f h = tt
-
 -- of a custodian whose rows say the same
 so_elsewhere : (before after : Remembered) (c : ℕ) (Becomes : AtHand → AtHand → Type 0) (old new : List Row) → Recounts c Becomes before after → AreSo before old
     → (d : ℕ) → d ≢ c → reached_in new d ≡ reached_in old d → held_in new d ≡ held_in old d → IfSome (get nat_cmp after d) (IsSo new d)
 so_elsewhere before after c Becomes old new counts so d other reached held =
     if_some (get nat_cmp after d) (λ h. get nat_cmp before d ≡ Some h) (IsSo new d)
-    (λ h is was. let s = if_some_at (get nat_cmp before d) h (IsSo old d) was (so d) in record { reached = s.reached ∙ sym reached; held = s.held ∙ sym held })
+    (λ h is was. let s = if_some_at (get nat_cmp before d) h (IsSo old d) was (so d) in record { reached = s.reached ∙ sym reached; held = if_some h.held (λ n. n ≡ held_in old d) (λ n. n ≡ held_in new d) (λ n some waits. waits ∙ sym held) s.held })
     (counts.others d other)
 
 so_here : (before after : Remembered) (c : ℕ) (Becomes : AtHand → AtHand → Type 0) (old new : List Row) → Recounts c Becomes before after → AreSo before old
@@ -118,6 +114,20 @@ so_here before after c Becomes old new counts so goes =
     if_some (get nat_cmp after c) (λ h. (was : AtHand) × (get nat_cmp before c ≡ Some was) × Becomes was h) (IsSo new c)
     (λ h is it. goes it.0 h it.2 (if_some_at (get nat_cmp before c) it.0 (IsSo old c) it.1 (so c)))
     counts.own
+
+-- where it is at hand how many waited, there is one more
+one_more : (was now : Option ℕ) (a b : ℕ) → IfSome now (λ n. Some n ≡ option_map (λ m. m + 1) was) → IfSome was (λ m. m ≡ a) → a + 1 ≡ b → IfSome now (λ n. n ≡ b)
+one_more was None a b one so step = tt
+one_more None (Some n) a b one so step = let clash : Some n ≡ None = one in absurd (cc)
+one_more (Some m) (Some n) a b one so step =
+    let same : Some n ≡ Some (m + 1) = one in
+    let more : n ≡ m + 1 = cc in
+    omega (arith, more, so, step)
+
+-- or one less
+one_less : (was now : Option ℕ) (a b : ℕ) → IfSome now (λ n. was ≡ Some (n + 1)) → IfSome was (λ m. m ≡ a) → a ≡ b + 1 → IfSome now (λ n. n ≡ b)
+one_less was None a b one so step = tt
+one_less was (Some n) a b one so step = let there : n + 1 ≡ a = if_some_at was (n + 1) (λ m. m ≡ a) one so in omega (arith, there, step)
 
 module _ (c v : ℕ) (bytes : List ℕ) (old new : Database) (before after : Remembered) (first : 1 ≤ v) (last : v ≤ 999_999) (kept : IsKept old)
     (fresh : finite.get (files_in (rows_of old received)) (c, v) ≡ None) (changes : ChangesTable received (AddsRow (unjudged c v bytes)) old new)
@@ -144,7 +154,8 @@ module _ (c v : ℕ) (bytes : List ℕ) (old new : Database) (before after : Rem
     | inl here ↦ subst (λ e. IfSome (get nat_cmp after e) (IsSo (rows_of new received) e)) (sym here)
         (so_here before after c OneMore (rows_of old received) (rows_of new received) counts so (λ was h one s. record {
           reached = one.reached ∙ s.reached ∙ sym (same_reached c);
-          held = one.held ∙ ap (λ n. n + 1) s.held ∙ sym (held_now c ∙ come_here (files_in (rows_of old received)) c v bytes fresh (reached_in (rows_of old received) c) above);
+          held = one_more was.held h.held (held_in (rows_of old received) c) (held_in (rows_of new received) c) one.held s.held
+              (sym (held_now c ∙ come_here (files_in (rows_of old received)) c v bytes fresh (reached_in (rows_of old received) c) above));
         }))
     | inr other ↦ so_elsewhere before after c OneMore (rows_of old received) (rows_of new received) counts so d other (same_reached d)
         (held_now d ∙ come_elsewhere (files_in (rows_of old received)) c v bytes d other (reached_in (rows_of old received) d))
@@ -166,10 +177,8 @@ module _ (c : ℕ) (verdict : Verdict) (old new : List Row) (before after : Reme
     | inl here ↦ subst (λ e. IfSome (get nat_cmp after e) (IsSo new e)) (sym here)
         (so_here before after c OneJudged old new counts so (λ was h one s.
         let reached = s.reached in
-        let held = s.held in
-        let less = one.held in
         let more = one.reached in
-        record { reached = omega (arith, reached, more, next_reached); held = omega (arith, held, less, next_held) }))
+        record { reached = omega (arith, reached, more, next_reached); held = one_less was.held h.held (held_in old c) (held_in new c) one.held s.held next_held }))
     | inr other ↦ so_elsewhere before after c OneJudged old new counts so d other (ap (λ (m : Judged). length (finite.values m)) (judges.others d other))
         (λ i. count_above (judges.files i) d (length (finite.values (judges.others d other i))))
   ]

@@ -1,10 +1,10 @@
 -- What a row says that names a key and has an item's body.
 use Rattle.std.proofs.Common.{◌≡◌, ◌∙◌, ◌==◌, ℕ, Bool, true, false, cond, List, Result, Ok, Err, IfOk, drop, length, take, refl, sym, ap}
 use Rattle.std.specs.Prelude.{Option, Some, None, option_map}
+use Rattle.std.specs.Result.{result_ok}
 use Rattle.sqlite.specs.Order.{Row, column}
 use Rattle.gaz_ids.specs.Codes.{lang_of}
 use Rattle.gaz_ids.specs.declared.lang.Lang.{Lang}
-use Rattle.gaz_records.specs.Fields.{ok_of}
 use Rattle.gaz_records.specs.Items.{item_of_text}
 use Rattle.gaz_records.specs.Labels.{label_of}
 use Rattle.gaz_records.specs.declared.item.Item.{Item}
@@ -44,5 +44,5 @@ named_kind kind.Adopt t q e = absurd (cc)
 pub said_told : {E : Type 0} (k : Kind) (r : Row) (q : Key) → key_named k (text_in (column r 0)) ≡ Some q → (found : Result Item E) → IfOk found (IsItemAt r 1 q) → IfOk found (λ x. item_said k r ≡ Some x)
 said_told k r q named (Err e) h = tt
 said_told k r q named (Ok x) h =
-    (λ i. ok_of (item_of_text (sym (named_kind k (text_in (column r 0)) q named) i) (text_in (h.there i))))
-    ∙ ap ok_of h.body.read
+    (λ i. result_ok (item_of_text (sym (named_kind k (text_in (column r 0)) q named) i) (text_in (h.there i))))
+    ∙ ap result_ok h.body.read

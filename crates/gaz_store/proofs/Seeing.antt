@@ -13,7 +13,7 @@ use Rattle.gaz_sql_facts.specs.Changes.{IsSpared}
 use Rattle.gaz_tables.specs.Stores.{HasTables}
 use Rattle.gaz_store.specs.Asking.{Asks, Tallies}
 use Rattle.gaz_kept.specs.Kept.{IsKept}
-use Rattle.gaz_store.specs.Seen.{IsUnharmed, Rests}
+use Rattle.gaz_store.specs.Seen.{IsUnharmed}
 use Rattle.gaz_kept.specs.Opening.{IsSettled}
 
 -- ---- what was asked
@@ -85,6 +85,10 @@ tallies_then {A} {T} first second last one r before after = record { kept = omeg
     by_result (Err e) s = λ is. let more = s is in omega (arith, before.kept)
 
 -- ---- a query
+
+-- the connection shows what it showed, and was open if it is
+abbrev Rests : State → State → Type 0
+Rests old new = HasCleanDisk new → IsTrue new.is_open → IsTrue old.is_open × (new.now ≡ old.now)
 
 module _ {A : Type 0} (old new : State) (r : Result A Error)
     (settled : IsTrue old.is_open → old.now ≡ old.committed)

@@ -1,6 +1,8 @@
 -- What a store's calls tell of it as a keeper that begin, change and end a judgement, and that write without one.
-use Rattle.std.proofs.Common.{◌≡◌, ◌≤◌, ℕ, List, Result, Ok, Err, refl, sym, subst}
-use Rattle.std.specs.Prelude.{⊤, None, Some}
+use Rattle.std.proofs.Common.{◌≡◌, ◌≤◌, ◌∙◌, inl, ℕ, List, Result, Ok, Err, ap, refl, sym, subst}
+use Rattle.std.specs.Prelude.{⊤, Option, None, Some}
+use Rattle.std.specs.Result.{IsErrAnd}
+use Rattle.std.proofs.lemmas.Result.{err_from_is_err_and}
 use Rattle.sqlite.specs.Effect.{Database}
 use Rattle.sqlite.specs.Held.{state}
 use Rattle.sqlite.specs.State.{State}
@@ -13,10 +15,9 @@ use Rattle.gaz_keeper.specs.Keeper.{Content, Enters, Goes, IsAtHand, IsNew, IsNo
 use Rattle.gaz_keeper.specs.declared.fault.ShelfFault.{ShelfFault}
 use Rattle.gaz_kept.specs.Contents.{content_in}
 use Rattle.gaz_store.specs.Altering.{Writes}
-use Rattle.gaz_store.specs.Asking.{AsksTables, Tallies}
+use Rattle.gaz_store.specs.Asking.{AsksTables, Fails, IsAnyway, Tallies}
 use Rattle.gaz_store.specs.Beside.{Turns}
 use Rattle.gaz_store.specs.Remembered.{Remembered}
-use Rattle.gaz_store.specs.Seen.{seen_of}
 use Rattle.gaz_store.specs.Store.{cleared, progress_of, seen_beside, seen_in, working_of}
 use Rattle.gaz_store.specs.Writing.{AppliesNext, Comes, IsNewIn, IsNextIn, RejectsNext, WhereSo}
 use Rattle.gaz_store.specs.declared.judgement.Judgement.{Judgement}
@@ -24,7 +25,8 @@ use Rattle.gaz_store.specs.declared.progress.Judging.{Judging}
 use Rattle.gaz_store.specs.declared.progress.Judging.TheVariants.{Idle, Open, Broken}
 use Rattle.gaz_store.specs.declared.store.Store.{Store}
 use Rattle.gaz_store.specs.declared.tables.Tables.{Tables}
-use Rattle.gaz_store.proofs.Entering.{receive_enters, skip_enters}
+use Rattle.gaz_store.proofs.Answered.{failed_at_once}
+use Rattle.gaz_store.proofs.Entering.{receive_enters, seen_of, skip_enters}
 use Rattle.gaz_store.proofs.StoreReads.{left_cleared, not_broken, on_ok_all}
 use Rattle.gaz_store.proofs.StoreGoes.{goes_idle, goes_kept, goes_not_kept, goes_on, goes_open, goes_wrong}
 
@@ -63,6 +65,10 @@ enters_beside register old new a b Broken f g r Asked makes not e = record {
 
 -- ---- the calls of a store
 
+-- a fault that is passed on
+pub passed_on : {T : Type 0} (q : Result T ShelfFault) (e : ShelfFault) → IsErrAnd q (λ x. x ≡ e) → q ≡ Err e
+passed_on q e is = let p = err_from_is_err_and q is in p.1 ∙ ap Err p.2
+
 module _ {S R : Type 0} {store : Ghosts S} (register : List ℕ) (old : Store S R store) where
   abbrev s : State
   s = state store old.tables.conn
@@ -89,14 +95,38 @@ module _ {S R : Type 0} {store : Ghosts S} (register : List ℕ) (old : Store S 
       (goes_on register s (state store t.conn) old.tables.at_hand t.at_hand m n old.tables.failures t.failures becomes lawful code a.asks a.tallies a.at_hand)
 
   -- a fault of the tables breaks the judgement
-  pub breaks : {A T : Type 0} (t : Tables S store) (k : Judging) → k ≡ Broken → (r : Result A ShelfFault) (e : ShelfFault) (P : Database → A → Type 0) (becomes : Content) (after : keeper.Progress)
-      → AsksTables old.tables t r P → r ≡ Err e
-      → Goes {T = T} (seen_in register old) (seen_in register (record old { tables = t; judging = k })) (Err e) ⊤ becomes None after
-  breaks {A} {T} t k broken r e P becomes after asks is =
-      let tallies = subst (λ q. Tallies old.tables.failures t.failures q) is asks.tallies in
-      subst (λ j. Goes {T = T} (seen_in register old) (seen_in register (record old { tables = t; judging = j })) (Err e) ⊤ becomes None after) (sym broken)
+  pub breaks : {A T : Type 0} (t : Tables S store) (k : Judging) → k ≡ Broken → (r : Result A ShelfFault) (e : ShelfFault) (q : Result T ShelfFault) (P : Database → A → Type 0) (becomes : Content) (after : keeper.Progress)
+      → AsksTables old.tables t r P → r ≡ Err e → q ≡ Err e
+      → Goes (seen_in register old) (seen_in register (record old { tables = t; judging = k })) q ⊤ becomes None after
+  breaks {A} {T} t k broken r e q P becomes after asks is passed =
+      let tallies = subst (λ x. Tallies old.tables.failures t.failures x) is asks.tallies in
+      subst (λ x. Goes (seen_in register old) (seen_in register (record old { tables = t; judging = k })) x ⊤ becomes None after) (sym passed)
+      (subst (λ j. Goes {T = T} (seen_in register old) (seen_in register (record old { tables = t; judging = j })) (Err e) ⊤ becomes None after) (sym broken)
       (goes_wrong {T = T} register s (state store t.conn) old.tables.at_hand t.at_hand old.judging old.tables.failures t.failures e r P becomes after asks.asks
-      (record { kept = tallies.kept; store = tallies.store }) asks.at_hand)
+      (record { kept = tallies.kept; store = tallies.store }) asks.at_hand))
+
+  -- there is none to go on with
+  pub refused : {T : Type 0} (t : Tables S store) (k : Judging) → k ≡ Broken → (e : ShelfFault) → Fails old.tables t e → (becomes : Content) (commits : Option Content) (after : keeper.Progress)
+      → Goes {T = T} (seen_in register old) (seen_in register (record old { tables = t; judging = k })) (Err e) ⊤ becomes commits after
+  refused {T} t k broken e fails becomes commits after = by_commits commits
+    where
+      goes : Goes {T = T} (seen_in register old) (seen_in register (record old { tables = t; judging = k })) (Err e) ⊤ becomes None after
+      goes = breaks {A = T} {T = T} t k broken (Err e) e (Err e) IsAnyway becomes after (failed_at_once {T = T} old.tables t e IsAnyway fails) refl refl
+
+      by_commits : (commits : Option Content) → Goes {T = T} (seen_in register old) (seen_in register (record old { tables = t; judging = k })) (Err e) ⊤ becomes commits after
+      by_commits None = goes
+      by_commits (Some made) = record {
+        harm = goes.harm;
+        stands = goes.stands;
+        done = goes.done;
+        undone = goes.undone;
+        on = goes.on;
+        broken = goes.broken;
+        counts = record { kept = goes.counts.kept; store = goes.counts.store; trust = goes.counts.trust };
+        leaves = λ sound ask left may. inl (goes.leaves sound ask left may);
+        whole = goes.whole;
+        committed = λ sound ask. tt;
+      }
 
   -- the judgement is kept
   pub keeps : (m : Judgement) (t : Tables S store) (r : Result (Unit {0}) ShelfFault) → old.judging ≡ Open m
@@ -108,16 +138,18 @@ module _ {S R : Type 0} {store : Ghosts S} (register : List ℕ) (old : Store S 
       (after_keep (progress_of k) (content_in s.now (working_of s.now k))) (Some (after_keep (progress_of k) (content_in s.now (working_of s.now k)))) keeper.Idle) (sym is)
       (goes_kept register s (state store t.conn) old.tables.at_hand t.at_hand m old.tables.failures t.failures r writes.alters writes.tallies writes.at_hand ok)
 
-  pub keeps_not : (m : Judgement) (t : Tables S store) (k : Judging) → k ≡ Broken → (r : Result (Unit {0}) ShelfFault) (e : ShelfFault) → old.judging ≡ Open m
-      → Writes old.tables t r (IsNextIn m.code) (WhereSo old.tables.at_hand (AppliesNext m.code m.changes)) → r ≡ Err e
-      → Goes {T = Unit {0}} (seen_in register old) (seen_in register (record old { tables = t; judging = k })) (Err e) ⊤ (after_keep (seen_in register old).progress (seen_in register old).content)
+  pub keeps_not : (m : Judgement) (t : Tables S store) (k : Judging) → k ≡ Broken → (r : Result (Unit {0}) ShelfFault) (e : ShelfFault) (q : Result (Unit {0}) ShelfFault) → old.judging ≡ Open m
+      → Writes old.tables t r (IsNextIn m.code) (WhereSo old.tables.at_hand (AppliesNext m.code m.changes)) → r ≡ Err e → q ≡ Err e
+      → Goes (seen_in register old) (seen_in register (record old { tables = t; judging = k })) q ⊤ (after_keep (seen_in register old).progress (seen_in register old).content)
       (Some (after_keep (seen_in register old).progress (seen_in register old).content)) keeper.Idle
-  keeps_not m t k broken r e is writes err =
-      subst (λ j. Goes {T = Unit {0}} (seen_in register old) (seen_in register (record old { tables = t; judging = j })) (Err e) ⊤ (after_keep (seen_in register old).progress (seen_in register old).content)
+  keeps_not m t k broken r e q is writes err passed =
+      subst (λ x. Goes (seen_in register old) (seen_in register (record old { tables = t; judging = k })) x ⊤ (after_keep (seen_in register old).progress (seen_in register old).content)
+      (Some (after_keep (seen_in register old).progress (seen_in register old).content)) keeper.Idle) (sym passed)
+      (subst (λ j. Goes {T = Unit {0}} (seen_in register old) (seen_in register (record old { tables = t; judging = j })) (Err e) ⊤ (after_keep (seen_in register old).progress (seen_in register old).content)
       (Some (after_keep (seen_in register old).progress (seen_in register old).content)) keeper.Idle) (sym broken)
       (subst (λ k. Goes {T = Unit {0}} (seen_beside register s old.tables.at_hand k old.tables.failures) (seen_in register (record old { tables = t; judging = Broken })) (Err e) ⊤
       (after_keep (progress_of k) (content_in s.now (working_of s.now k))) (Some (after_keep (progress_of k) (content_in s.now (working_of s.now k)))) keeper.Idle) (sym is)
-      (goes_not_kept register s (state store t.conn) old.tables.at_hand t.at_hand m old.tables.failures t.failures r writes.alters writes.tallies writes.at_hand e err))
+      (goes_not_kept register s (state store t.conn) old.tables.at_hand t.at_hand m old.tables.failures t.failures r writes.alters writes.tallies writes.at_hand e err)))
 
   -- a file comes
   pub received : {T : Type 0} (t : Tables S store) (k : Judging) → k ≡ cleared old.judging → (r : Result T ShelfFault) (c v : ℕ) (bytes : List ℕ) → (1 ≤ v) × (v ≤ 999_999) → IsNotOpen (seen_in register old).progress

@@ -23,6 +23,6 @@ pub record Makes (db : Database) (j : Judgement) (working : View) : Type 0 where
 abbrev pub Turns : Database → Judgement → Judgement → (View → View) → Type 0
 Turns db old new becomes = (w : View) → Makes db old w → Makes db new (becomes w)
 
--- so it is of the working view
+-- this holds of each working view that a judgement makes of the tables
 abbrev pub Beside : Database → Judgement → (View → Type 0) → Type 0
 Beside db j IsSo = (w : View) → Makes db j w → IsSo w

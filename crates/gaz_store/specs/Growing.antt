@@ -40,8 +40,8 @@ abbrev pub of_growth : GrowFault → ExtendFault
 of_growth growth.RemovedCustodian = RemovedCustodian
 of_growth growth.ChangedBlocks = ChangedBlocks
 
--- as a keeper tells it: a failure is `Store`, and every other fault changes nothing as a want of
--- memory does
+-- the fault of an extension as a keeper tells it: a failure is `Store`, and every other fault
+-- changes nothing as a want of memory does
 abbrev pub as_keeper : ExtendFault → ShelfFault
 as_keeper OtherRegister = shelf.Memory
 as_keeper RemovedCustodian = shelf.Memory

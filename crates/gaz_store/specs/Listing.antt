@@ -31,7 +31,7 @@ told_in r = option_map (told_with r) (item_in r)
 abbrev pub lives_kept : {S R : Type 0} → {store : Ghosts S} → Store S R store → List Told
 lives_kept t = filter_map told_in (rows_of (database_of t) version2)
 
--- and of a custodian's numbers
+-- what the rows of `version2` tell of a custodian's numbers
 abbrev pub passages_kept : {S R : Type 0} → {store : Ghosts S} → Store S R store → ℕ
     → List PassageRow
 passages_kept t c = passages_in (rows_of (database_of t) version2) c

@@ -1,12 +1,12 @@
 -- Where a page begins, and what its rows say.
 use Rattle.std.specs.Prelude.{◌≡◌, ◌==◌, ℕ, Bool, true, false, List, Option, Some, None, map}
+use Rattle.std.specs.Result.{result_ok}
 use Rattle.std.specs.Option.{option_map_or}
 use Rattle.std.specs.Ordering.{is_gt, nat_cmp}
 use Rattle.std.specs.Cmp.Lexicographic.{slice_cmp}
 use Rattle.sqlite.specs.Order.{Row, column}
 use Rattle.gaz_ids.specs.Codes.{lang_number}
 use Rattle.gaz_ids.specs.declared.lang.Lang.{Lang}
-use Rattle.gaz_records.specs.Fields.{ok_of}
 use Rattle.gaz_records.specs.Items.{item_of_text}
 use Rattle.gaz_records.specs.declared.item.Item.{Item}
 use Rattle.gaz_records.specs.declared.item.Kind.{Kind}
@@ -34,7 +34,7 @@ IsStart kind after (Some start) =
 
 -- the item that a row of id and body says
 abbrev pub item_said : Kind → Row → Option Item
-item_said kind r = ok_of (item_of_text kind (text_in (column r 1)))
+item_said kind r = result_ok (item_of_text kind (text_in (column r 1)))
 
 -- each row says an item, and these are they in turn
 abbrev pub SayItems : Kind → List Row → List Item → Type 0

@@ -37,7 +37,7 @@ any_passed db c = is_any (passages_of db c)
 abbrev pub MayKnow : Option Bool → Database → ℕ → Type 0
 MayKnow known db c = (any : Bool) → known ≡ Some any → any ≡ any_passed db c
 
--- it is known that none was
+-- it is known that no number of the custodian was passed on
 abbrev pub knows_none : Option Bool → Bool
 knows_none None = false
 knows_none (Some any) = not any

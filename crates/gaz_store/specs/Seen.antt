@@ -1,4 +1,4 @@
--- How the tables of a store are seen.
+-- What the tables of a store stand for, and what a crash may leave of them.
 use Rattle.std.specs.Prelude.{◌≡◌, ◌≤◌, ◌-◌, ◌^◌, ◌==◌, ℕ, List, true, IsTrue}
 use Rattle.std.proofs.Common.{eqb-true, le_of_eq, subst, sym}
 use Rattle.sqlite_trees.specs.Tree.{Trees}
@@ -6,7 +6,7 @@ use Rattle.sqlite.specs.Effect.{Database, IsDatabase}
 use Rattle.sqlite.specs.State.{HasCleanDisk, State}
 use Rattle.gaz_views.proofs.Lawful.{lawful_empty}
 use Rattle.gaz_views.specs.View.{View, empty_view}
-use Rattle.gaz_keeper.specs.Keeper.{Content, IsLawful, Progress, Seen}
+use Rattle.gaz_keeper.specs.Keeper.{Content, IsLawful}
 use Rattle.gaz_sql_facts.specs.Changes.{AreTreesOf}
 use Rattle.gaz_tables.specs.Schema.{meta, received}
 use Rattle.gaz_tables.specs.Tables.{rows_of}
@@ -68,27 +68,3 @@ left_lawful register s kept left may =
 
 pub full_at : (failures : ℕ) → (failures == 2 ^ 64 - 1) ≡ true → 2 ^ 64 - 1 ≤ failures
 full_at failures full = le_of_eq (sym (eqb-true failures (2 ^ 64 - 1) full))
-
--- a connection to a store of this register, with what is at hand and a judgement beside it, and so
--- many failures
-abbrev pub seen_of : List ℕ → State → Remembered → Progress → View → ℕ → Seen
-seen_of register s at_hand progress working failures = record {
-  content = content_in s.now working;
-  stands = StandsFor register s at_hand working;
-  lawful = λ stood. stood.lawful;
-  trusted = HasCleanDisk s;
-  unharmed = IsUnharmed s;
-  progress = progress;
-  failures = failures;
-  is_full = failures == 2 ^ 64 - 1;
-  full = full_at failures;
-  leaves = MayLeave s;
-  whole = LeavesKept register s;
-  left_lawful = left_lawful register s;
-}
-
--- ---- what a call leaves of what is seen
-
--- the connection shows what it showed, and was open if it is
-abbrev pub Rests : State → State → Type 0
-Rests old new = HasCleanDisk new → IsTrue new.is_open → IsTrue old.is_open × (new.now ≡ old.now)

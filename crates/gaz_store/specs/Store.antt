@@ -47,7 +47,7 @@ working_of db Idle = empty_view
 working_of db (Open j) = view_made db j
 working_of db Broken = empty_view
 
--- it judges a volume that is at hand, and its changes make that view
+-- a judgement is of a volume that is at hand, and its changes make that view
 pub record IsUnderWay (db : Database) (j : Judgement) : Type 0 where
   pub at_hand : IsAtHand (content_in db empty_view) j.code
   pub makes : Makes db j (view_made db j)
@@ -57,7 +57,7 @@ StandsBeside db Idle = ⊤
 StandsBeside db (Open j) = IsUnderWay db j
 StandsBeside db Broken = ⊤
 
--- so it is of a custodian's view: the working one where its volume is judged, else its last
+-- this holds of a custodian's view: of the working one where its volume is judged, else of its last
 abbrev pub IsOfView : Database → Judging → ℕ → (View → Type 0) → Type 0
 IsOfView db Idle c IsSo = IsSo (last_in db c)
 IsOfView db (Open j) c IsSo = (j.code ≡ c → Beside db j IsSo) × (j.code ≢ c → IsSo (last_in db c))
@@ -87,7 +87,7 @@ seen_beside register s at_hand judging failures = record {
   left_lawful = left_lawful register s;
 }
 
--- as a store of the register of this text
+-- a store, seen as one of the register of this text
 abbrev pub seen_in : {S R : Type 0} → {store : Ghosts S} → List ℕ → Store S R store → Seen
 seen_in {S} {R} {store} register t =
     seen_beside register (state store t.tables.conn) t.tables.at_hand t.judging t.tables.failures

@@ -75,7 +75,7 @@ IsStepOf most rows says (Told true) = list_any says rows ≡ true
 IsStepOf most rows says (Told false) = (list_any says rows ≡ false) × (length rows < most)
 IsStepOf most rows says (Behind id) = (list_any says rows ≡ false) × IsIdOf rows (string_bytes id)
 
--- so it is of whatever rows say, where one says it or none does
+-- whatever rows say, this step is told of them where one says it or none does
 abbrev pub Decides : ℕ → List Row → Bool → Step → Type 0
 Decides most rows found step =
     (says : Row → Bool) → found ≡ list_any says rows → IsStepOf most rows says step

@@ -29,7 +29,7 @@ Comes c volume bytes = ChangesTable received (AddsRow (unjudged c volume bytes))
 abbrev pub IsNextIn : ℕ → Database → Type 0
 IsNextIn c db = IsSome (finite.get (files_in (rows_of db received)) (c, next_in db c))
 
--- it is rejected at a place by a rule
+-- a custodian's next volume is rejected at a place by a rule
 abbrev pub RejectsNext : ℕ → ℕ → ℕ → Database → Database → Type 0
 RejectsNext c place rule old new =
     ChangesTable received (Rejects c (next_in old c) (pos place) rule) old new
@@ -40,7 +40,7 @@ RejectsNext c place rule old new =
 abbrev pub AppliesNext : ℕ → Overlaid → Database → Database → Type 0
 AppliesNext c changes old new = KeepsVolume c (next_in old c) changes old new
 
--- so it becomes where the tables are a store's and what is at hand is so of them
+-- a database becomes another where the tables are a store's and what is at hand is so of them
 abbrev pub WhereSo : Remembered → (Database → Database → Type 0) → Database → Database → Type 0
 WhereSo at_hand Becomes old new =
     IsKept old → AreSo at_hand (rows_of old received) → Becomes old new

@@ -1,5 +1,5 @@
 //! What the judgement in progress answers, of its changes and the tables.
-ghost use Rattle.std.specs.Prelude.{◌≡◌, None, OnOk, option_map};
+ghost use Rattle.std.specs.Prelude.{◌≡◌, None};
 ghost use Rattle.std.specs.Option.{option_and_then};
 ghost use Rattle.std.specs.FinMap as map;
 ghost use Rattle.gaz_overlay.specs.Changes.{is_touched};

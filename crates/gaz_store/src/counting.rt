@@ -1,5 +1,5 @@
 //! How many volumes of a custodian are judged, and how many wait above them.
-ghost use Rattle.std.specs.Prelude.{◌≡◌, ◌≤◌, ◌+◌, ⊤, nat_le, length, IfOk};
+ghost use Rattle.std.specs.Prelude.{◌≡◌, ◌≤◌, ◌<◌, nat_le, IfOk};
 ghost use Rattle.gaz_keeper.specs.Board.{reached};
 ghost use Rattle.gaz_keeper.specs.Received.{count_above};
 ghost use Rattle.gaz_tables.specs.Receiveds.{FindsAbove};
@@ -35,35 +35,40 @@ impl<S: Alter> Tables<S> {
             (λ db n. n ≡ held_in (rows_of db received) code) }
     {
         let at_hand = self.counts(code)?;
-        Ok(at_hand.held)
+        let reached = at_hand.reached;
+        if let Some(held) = at_hand.held {
+            return Ok(held);
+        }
+        match self.count_above(code, reached) {
+            Ok(held) => {
+                let counted = AtHand {
+                    reached,
+                    held: Some(held),
+                };
+                self.note(code, counted);
+                Ok(held)
+            }
+            Err(fault) => Err(fault),
+        }
     }
 
-    // How many are judged and how many wait: what is at hand of them, or else what is counted,
-    // which is at hand from then on.
+    // What is at hand of a custodian; where that is nothing, how many are judged is counted, and is
+    // at hand from then on.
     fn counts(&mut self, code: Code) -> Result<AtHand, ShelfFault>
         ensures { Recalls self.old self.new result (λ db h. IsSo (rows_of db received) code h) }
     {
         if let Some(at_hand) = self.at_hand.get(&code).copied() {
             return Ok(at_hand);
         }
-        match self.count(code) {
-            Ok(counted) => {
-                // Where there is no memory to keep them they are counted again.
-                let _ = self.at_hand.insert(code, counted);
+        match self.count_judged(code) {
+            Ok(reached) => {
+                let counted = AtHand {
+                    reached,
+                    held: None,
+                };
+                self.note(code, counted);
                 Ok(counted)
             }
-            Err(fault) => Err(fault),
-        }
-    }
-
-    // How many are judged and how many wait, counted by statements.
-    fn count(&mut self, code: Code) -> Result<AtHand, ShelfFault>
-        ensures { AsksTables self.old self.new result
-            (λ db h. IsSo (rows_of db received) code h) }
-    {
-        let reached = self.count_judged(code)?;
-        match self.count_above(code, reached) {
-            Ok(held) => Ok(AtHand { reached, held }),
             Err(fault) => Err(fault),
         }
     }
@@ -71,12 +76,12 @@ impl<S: Alter> Tables<S> {
     // How many volumes of a custodian are judged: as these are the first ones, half of what is left
     // goes with each that is looked at.
     fn count_judged(&mut self, code: Code) -> Result<u64, ShelfFault>
-        ensures asks { AsksTables self.old self.new result
+        ensures { AsksTables self.old self.new result
             (λ db n. n ≡ reached_in (rows_of db received) code) }
-        ensures range { IfOk result (λ n. n ≤ 999_999) }
     {
-        let mut reached: u64 = 0;
-        let mut beyond: u64 = LAST_VOLUME + 1;
+        let bounds = self.bounds(code)?;
+        let mut reached = bounds.0;
+        let mut beyond = bounds.1;
         while reached + 1 < beyond {
             let middle = reached + (beyond - reached) / 2;
             match self.is_judged(code, middle) {
@@ -86,6 +91,30 @@ impl<S: Alter> Tables<S> {
             }
         }
         Ok(reached)
+    }
+
+    // How many volumes are judged at least, and a number that is more than are: a volume is looked
+    // at and, as long as it is judged, the one of twice its number. Where none is judged, one look
+    // tells.
+    fn bounds(&mut self, code: Code) -> Result<(u64, u64), ShelfFault>
+        ensures asks { AsksTables self.old self.new result
+            (λ db b. (b.0 ≤ reached_in (rows_of db received) code)
+            × (reached_in (rows_of db received) code < b.1)) }
+        ensures order { IfOk result (λ b. (b.0 < b.1) × (b.1 ≤ 1_000_000)) }
+    {
+        let mut reached: u64 = 0;
+        let mut next: u64 = 1;
+        while next <= LAST_VOLUME {
+            match self.is_judged(code, next) {
+                Ok(true) => {
+                    reached = next;
+                    next *= 2;
+                }
+                Ok(false) => return Ok((reached, next)),
+                Err(fault) => return Err(fault),
+            }
+        }
+        Ok((reached, LAST_VOLUME + 1))
     }
 
     // Whether a volume is judged.
@@ -103,10 +132,12 @@ impl<S: Alter> Tables<S> {
 
     // How many files of a custodian are above a volume.
     fn count_above(&mut self, code: Code, volume: u64) -> Result<u64, ShelfFault>
-        requires { volume ≤ 999_999 }
         ensures { AsksTables self.old self.new result
             (λ db n. n ≡ count_above (files_in (rows_of db received)) code volume) }
     {
+        if volume > LAST_VOLUME {
+            return Err(self.fail());
+        }
         let rows = self.rows_above(code, volume, MANY)?;
         if rows.len() >= MANY as usize {
             return Err(self.fail());

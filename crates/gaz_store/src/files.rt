@@ -1,8 +1,6 @@
 //! What is read of received files.
-ghost use Rattle.std.specs.Prelude.{◌≡◌, pos, IfOk, IfSome, option_map};
+ghost use Rattle.std.specs.Prelude.{◌≡◌, IfOk, option_map};
 ghost use Rattle.std.specs.FinMap as map;
-ghost use Rattle.sqlite.specs.Order.{column};
-ghost use Rattle.sqlite.specs.declared.types.Value.TheVariants.{Int};
 ghost use Rattle.gaz_keeper.specs.Board.{verdict_on};
 ghost use Rattle.gaz_tables.specs.Receiveds.{FindsFile, FindsVerdict};
 ghost use Rattle.gaz_tables.specs.Schema.{received};
@@ -15,9 +13,9 @@ ghost use Rattle.gaz_kept.specs.Files.{files_in, verdict_of};
 use crate::tables::Tables;
 use gaz_ids::{Code, Volume};
 use gaz_keeper::ShelfFault;
+use gaz_kept::decoding::{RowFault, number};
 use gaz_tables::receiveds;
 use gaz_views::Verdict;
-use sqlite::types::ValueRef;
 use sqlite::{Alter, Error, Row};
 
 impl<S: Alter> Tables<S> {
@@ -48,8 +46,8 @@ impl<S: Alter> Tables<S> {
     {
         let rows = self.verdict_rows(code, volume)?;
         match said(&rows) {
-            Some(verdict) => Ok(verdict),
-            None => Err(self.fail()),
+            Ok(verdict) => Ok(verdict),
+            Err(fault) => Err(self.row_fault(fault)),
         }
     }
 
@@ -79,45 +77,35 @@ impl<S: Alter> Tables<S> {
     }
 }
 
-// The whole number in a column, where one stands there.
-fn whole(row: &Row, at: usize) -> Option<u64>
-    ensures { IfSome result (λ n. column row.now at ≡ Int (pos n)) }
-{
-    match row.get_ref(at) {
-        Ok(ValueRef::Int(n)) if n >= 0 => Some(n as u64),
-        _ => None,
-    }
-}
-
-// The verdict of a state with its place and rule, or none where no store writes such a row.
-fn verdict_of(state: u64, place: u64, rule: u64) -> Option<Option<Verdict>>
-    ensures { IfSome result (λ v. v ≡ verdict_of state place rule) }
+// The verdict of a state with its place and rule.
+fn verdict_of(state: u64, place: u64, rule: u64) -> Result<Option<Verdict>, RowFault>
+    ensures { IfOk result (λ v. v ≡ verdict_of state place rule) }
 {
     if state == 0 {
-        return Some(None);
+        return Ok(None);
     }
     if state == 1 {
-        return Some(Some(Verdict::Applied));
+        return Ok(Some(Verdict::Applied));
     }
     if state != 2 || rule > 255 {
-        return None;
+        return Err(RowFault::Wrong);
     }
-    Some(Some(Verdict::Rejected {
+    Ok(Some(Verdict::Rejected {
         place,
         rule: rule as u8,
     }))
 }
 
 // What the first row says, of state, place and rule.
-fn said(rows: &[Row]) -> Option<Option<Verdict>>
-    ensures { IfSome result (SaysVerdict rows.now) }
+fn said(rows: &[Row]) -> Result<Option<Verdict>, RowFault>
+    ensures { IfOk result (SaysVerdict rows.now) }
 {
     let Some(row) = rows.first() else {
-        return Some(None);
+        return Ok(None);
     };
-    let state = whole(row, 0)?;
-    let place = whole(row, 1)?;
-    let rule = whole(row, 2)?;
+    let state = number(row, 0)?;
+    let place = number(row, 1)?;
+    let rule = number(row, 2)?;
     verdict_of(state, place, rule)
 }
 

@@ -1,7 +1,7 @@
 //! What stands at a key.
 ghost use Rattle.std.specs.Prelude.{◌≡◌, true, false, ◌≤◌, is_some};
 ghost use Rattle.std.specs.FinMap as map;
-ghost use Rattle.gaz_cells.specs.Ids.{id_of, kind_in};
+ghost use Rattle.gaz_cells.specs.Ids.{kind_in};
 ghost use Rattle.gaz_records.specs.Kinds.{number_of};
 ghost use Rattle.gaz_tables.specs.Schema.{received, version2};
 ghost use Rattle.gaz_tables.specs.Versions.{FindsNewest, FindsNewestUntil};

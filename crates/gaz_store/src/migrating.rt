@@ -9,15 +9,12 @@ ghost use Rattle.gaz_store.specs.Opened.{IsOpened, IsRefused, answer_of, conn_of
 ghost use Rattle.gaz_store.specs.Store.{seen_in};
 
 use crate::naming::OfRegister;
-use crate::progress::Judging;
 use crate::store::Store;
-use crate::tables::Tables;
 use gaz_kept::{StoreRefusal, migrating};
 use gaz_ledger::Seed;
 use gaz_register::Register;
 use sqlite::{Alter, Connection};
 use std::alloc::Global;
-use std::marker::PhantomData;
 
 impl<S: Alter, R: OfRegister> Store<S, R> {
     /// Takes the database behind a connection outside a transaction as the store of a register, as
@@ -61,12 +58,7 @@ impl<S: Alter, R: OfRegister> Store<S, R> {
     {
         let mut conn = conn;
         match migrating::migrate(alloc, &mut conn, register) {
-            Ok(()) => Ok(Store {
-                tables: Tables::over(alloc, conn),
-                judging: Judging::Idle,
-                seed,
-                of: PhantomData,
-            }),
+            Ok(()) => Ok(Store::over(alloc, seed, conn)),
             Err(refusal) => Err((conn, refusal)),
         }
     }

@@ -10,15 +10,12 @@ ghost use Rattle.gaz_store.specs.Opened.{IsMade, IsOpened, IsRefused, answer_of,
 ghost use Rattle.gaz_store.specs.Store.{seen_in};
 
 use crate::naming::OfRegister;
-use crate::progress::Judging;
 use crate::store::Store;
-use crate::tables::Tables;
 use gaz_kept::{StoreRefusal, opening};
 use gaz_ledger::Seed;
 use gaz_register::Register;
 use sqlite::{Alter, Connection};
 use std::alloc::Global;
-use std::marker::PhantomData;
 
 impl<S: Alter, R: OfRegister> Store<S, R> {
     /// Makes a store of a register in the database behind a connection outside a transaction,
@@ -47,12 +44,7 @@ impl<S: Alter, R: OfRegister> Store<S, R> {
     {
         let mut conn = conn;
         match opening::create(alloc, &mut conn, register) {
-            Ok(()) => Ok(Store {
-                tables: Tables::over(alloc, conn),
-                judging: Judging::Idle,
-                seed,
-                of: PhantomData,
-            }),
+            Ok(()) => Ok(Store::over(alloc, seed, conn)),
             Err(refusal) => Err((conn, refusal)),
         }
     }
@@ -85,12 +77,7 @@ impl<S: Alter, R: OfRegister> Store<S, R> {
     {
         let mut conn = conn;
         match opening::check(alloc, &mut conn, register) {
-            Ok(()) => Ok(Store {
-                tables: Tables::over(alloc, conn),
-                judging: Judging::Idle,
-                seed,
-                of: PhantomData,
-            }),
+            Ok(()) => Ok(Store::over(alloc, seed, conn)),
             Err(refusal) => Err((conn, refusal)),
         }
     }

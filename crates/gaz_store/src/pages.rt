@@ -1,5 +1,5 @@
 //! Pages of what a custodian's gazetteer had after a volume.
-ghost use Rattle.std.specs.Prelude.{◌≡◌, ◌≤◌, true, IfOk, Some, option_map};
+ghost use Rattle.std.specs.Prelude.{◌≡◌, true, IfOk, Some, option_map};
 ghost use Rattle.std.specs.String.{string_bytes};
 ghost use Rattle.gaz_keeper.specs.Telling.{IsPageAt};
 ghost use Rattle.gaz_records.specs.Kinds.{is_entry_kind, number_of};

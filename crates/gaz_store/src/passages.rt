@@ -9,54 +9,22 @@ ghost use Rattle.gaz_tables.specs.Tables.{rows_of};
 ghost use Rattle.gaz_kept.specs.Versions.{text_in};
 ghost use Rattle.gaz_loaded.specs.Passing.{AreToldBehind};
 ghost use Rattle.gaz_store.specs.Asking.{AsksTables};
-ghost use Rattle.gaz_store.specs.Passages.{IsBare, IsStartOf, SayPassages, custody_listed};
+ghost use Rattle.gaz_store.specs.Passages.{IsStartOf, SayPassages};
 ghost use Rattle.gaz_store.specs.Passing.{any_passed, passages_of};
 
 use crate::tables::Tables;
-use gaz_ids::{Code, Hop, LAST_VOLUME, Uprn};
+use gaz_ids::{Code, LAST_VOLUME, Uprn};
 use gaz_keeper::ShelfFault;
-use gaz_kept::decoding::{RowFault, key_in, name_of, number, text};
+use gaz_kept::decoding::{RowFault, key_in, name_of};
+use gaz_kept::passages::passed_in;
 use gaz_loaded::Passage;
 use gaz_records::{Key, Kind};
 use gaz_tables::custody;
-use gaz_views::Custody;
 use sqlite::{Alter, Row};
 use std::alloc::Global;
 
 // The most rows of one answer.
 const MOST: u32 = 512;
-
-// No language and no text stand in a row, as in none of kind 92.
-fn check_bare(row: &Row) -> Result<(), RowFault>
-    ensures { IfOk result (λ done. IsBare row.now) }
-{
-    if number(row, 6)? == 0 && text(row, 7)?.is_empty() {
-        Ok(())
-    } else {
-        Err(RowFault::Wrong)
-    }
-}
-
-// What became of a number, of a row of id, born, gone, live, street, hop, lang and body.
-fn custody_in(row: &Row) -> Result<Custody, RowFault>
-    ensures said { IfOk result (λ x. custody_listed row.now ≡ Some x) }
-    ensures bare { IfOk result (λ x. IsBare row.now) }
-{
-    check_bare(row)?;
-    let live = number(row, 3)?;
-    let other = Code::of(number(row, 4)?);
-    let hop = Hop::of(number(row, 5)?);
-    let (Some(other), Some(hop)) = (other, hop) else {
-        return Err(RowFault::Wrong);
-    };
-    if live == 0 {
-        return Ok(Custody::Released { to: other, hop });
-    }
-    if live == 1 {
-        return Ok(Custody::Adopted { from: other, hop });
-    }
-    Err(RowFault::Wrong)
-}
 
 // Which number a row names.
 fn uprn_in(row: &Row) -> Result<Uprn, RowFault>
@@ -76,12 +44,11 @@ fn passages_in(alloc: Global, rows: &[Row]) -> Result<Vec<Passage>, RowFault>
     let mut passages = Vec::new(alloc);
     for row in rows {
         let uprn = uprn_in(row)?;
-        let born = number(row, 1)?;
-        let custody = custody_in(row)?;
+        let passed = passed_in(row, 1)?;
         let passage = Passage {
             uprn,
-            born,
-            custody,
+            born: passed.born,
+            custody: passed.custody,
         };
         if passages.push(passage).is_err() {
             return Err(RowFault::Memory);

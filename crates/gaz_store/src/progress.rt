@@ -14,6 +14,7 @@ use gaz_keeper::ShelfFault;
 use gaz_records::Key;
 use gaz_views::Custody;
 use sqlite::Alter;
+use std::mem::replace;
 
 /// The judgement in progress of a store.
 #[derive(Drop)]
@@ -31,6 +32,17 @@ impl Judging {
     {
         if let Judging::Broken = self {
             *self = Judging::Idle;
+        }
+    }
+
+    /// Takes the judgement in progress. A broken one stands in its place until it is put back.
+    pub(crate) fn take_open(&mut self) -> Option<Judgement>
+        ensures open { IfSome result (λ j. self.old ≡ Judging.Open j) }
+        ensures broken { self.new ≡ Judging.Broken }
+    {
+        match replace(self, Judging::Broken) {
+            Judging::Open(judgement) => Some(judgement),
+            _ => None,
         }
     }
 

@@ -9,7 +9,6 @@ use gaz_keeper::{Shelf, ShelfFault};
 use gaz_records::{Key, Kind, SharedItem};
 use gaz_views::{Custody, Property, Verdict};
 use sqlite::Alter;
-use std::mem::replace;
 
 impl<S: Alter, R: OfRegister> Shelf for Store<S, R> {
     ghost use Rattle.gaz_store.specs.Store.{seen_in};
@@ -129,74 +128,48 @@ impl<S: Alter, R: OfRegister> Shelf for Store<S, R> {
     }
 
     fn put(&mut self, item: SharedItem) -> Result<(), ShelfFault> {
-        match replace(&mut self.judging, Judging::Broken) {
-            Judging::Open(mut judgement) => match judgement.put(&mut self.tables, item) {
-                Ok(()) => {
-                    self.judging = Judging::Open(judgement);
-                    Ok(())
-                }
-                Err(fault) => Err(fault),
-            },
-            _ => Err(self.tables.fail()),
-        }
+        let Some(mut judgement) = self.judging.take_open() else {
+            return Err(self.tables.fail());
+        };
+        judgement.put(&mut self.tables, item)?;
+        self.judging = Judging::Open(judgement);
+        Ok(())
     }
 
     fn take(&mut self, key: &Key) -> Result<(), ShelfFault> {
-        match replace(&mut self.judging, Judging::Broken) {
-            Judging::Open(mut judgement) => match judgement.take(&mut self.tables, key) {
-                Ok(()) => {
-                    self.judging = Judging::Open(judgement);
-                    Ok(())
-                }
-                Err(fault) => Err(fault),
-            },
-            _ => Err(self.tables.fail()),
-        }
+        let Some(mut judgement) = self.judging.take_open() else {
+            return Err(self.tables.fail());
+        };
+        judgement.take(&mut self.tables, key)?;
+        self.judging = Judging::Open(judgement);
+        Ok(())
     }
 
     fn release(&mut self, uprn: Uprn, to: Code, hop: Hop) -> Result<(), ShelfFault> {
-        match replace(&mut self.judging, Judging::Broken) {
-            Judging::Open(mut judgement) => {
-                match judgement.release(&mut self.tables, uprn, to, hop) {
-                    Ok(()) => {
-                        self.judging = Judging::Open(judgement);
-                        Ok(())
-                    }
-                    Err(fault) => Err(fault),
-                }
-            }
-            _ => Err(self.tables.fail()),
-        }
+        let Some(mut judgement) = self.judging.take_open() else {
+            return Err(self.tables.fail());
+        };
+        judgement.release(&mut self.tables, uprn, to, hop)?;
+        self.judging = Judging::Open(judgement);
+        Ok(())
     }
 
     fn adopt(&mut self, blpu: SharedItem, from: Code, hop: Hop) -> Result<(), ShelfFault> {
-        match replace(&mut self.judging, Judging::Broken) {
-            Judging::Open(mut judgement) => {
-                match judgement.adopt(&mut self.tables, blpu, from, hop) {
-                    Ok(()) => {
-                        self.judging = Judging::Open(judgement);
-                        Ok(())
-                    }
-                    Err(fault) => Err(fault),
-                }
-            }
-            _ => Err(self.tables.fail()),
-        }
+        let Some(mut judgement) = self.judging.take_open() else {
+            return Err(self.tables.fail());
+        };
+        judgement.adopt(&mut self.tables, blpu, from, hop)?;
+        self.judging = Judging::Open(judgement);
+        Ok(())
     }
 
     fn keep(&mut self) -> Result<(), ShelfFault> {
-        match replace(&mut self.judging, Judging::Broken) {
-            Judging::Open(judgement) => {
-                match self.tables.apply(judgement.code, &judgement.changes) {
-                    Ok(()) => {
-                        self.judging = Judging::Idle;
-                        Ok(())
-                    }
-                    Err(fault) => Err(fault),
-                }
-            }
-            _ => Err(self.tables.fail()),
-        }
+        let Some(judgement) = self.judging.take_open() else {
+            return Err(self.tables.fail());
+        };
+        self.tables.apply(judgement.code, &judgement.changes)?;
+        self.judging = Judging::Idle;
+        Ok(())
     }
 
     fn abandon(&mut self) -> Result<(), ShelfFault> {

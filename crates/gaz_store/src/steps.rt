@@ -17,7 +17,7 @@ use sqlite::Row;
 use std::alloc::Global;
 
 /// How many rows of a street, or of what names a BLPU, are read at a time.
-pub(crate) const PAGE: u32 = 64;
+pub(crate) const PAGE: u32 = 512;
 
 /// What a page of a street tells.
 pub(crate) enum Step {

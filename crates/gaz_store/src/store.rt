@@ -1,11 +1,14 @@
 //! The keeper in the tables of a database.
-ghost use Rattle.std.specs.Prelude.{◌≡◌, false};
+ghost use Rattle.std.specs.Prelude.{◌≡◌, false, List};
+ghost use Rattle.sqlite.specs.Order.{Row};
+ghost use Rattle.gaz_store.specs.Remembered.{AreSo};
 
 use crate::naming::OfRegister;
 use crate::progress::Judging;
 use crate::tables::Tables;
 use gaz_ledger::Seed;
 use sqlite::{Alter, Connection};
+use std::alloc::Global;
 use std::marker::{Brand, PhantomData};
 
 /// Keeps received files and boards in the tables of a database, and what a judgement has changed
@@ -33,6 +36,23 @@ impl<S: Alter + Drop, R: OfRegister> Drop for Store<S, R> {
 }
 
 impl<S: Alter, R: OfRegister> Store<S, R> {
+    /// The store in the tables behind a connection that is outside a transaction. No judgement is
+    /// in progress, no failure is counted yet, and nothing is at hand.
+    pub(crate) fn over(alloc: Global, seed: Seed, conn: Connection<S>) -> Store<S, R>
+        requires { conn.in_transaction ≡ false }
+        ensures conn { result.tables.conn ≡ conn }
+        ensures failures { result.tables.failures ≡ 0 }
+        ensures so { (files : List Row) → AreSo result.tables.at_hand files }
+        ensures idle { result.judging ≡ Judging.Idle }
+    {
+        Store {
+            tables: Tables::over(alloc, conn),
+            judging: Judging::Idle,
+            seed,
+            of: PhantomData,
+        }
+    }
+
     /// The same store, seen as one of the register that another name is for.
     pub fn named<N: OfRegister>(self) -> Store<S, N>
         ensures tables { result.tables ≡ self.tables }

@@ -88,18 +88,7 @@ impl<S: Alter> Tables<S> {
         let Some(was) = self.at_hand.get(&code).copied() else {
             return;
         };
-        if was.held == u64::MAX {
-            self.at_hand.clear();
-            return;
-        }
-        let held = was.held + 1;
-        self.note(
-            code,
-            AtHand {
-                reached: was.reached,
-                held,
-            },
-        );
+        self.note(code, was.one_more());
     }
 
     // One that waited is judged.
@@ -111,17 +100,14 @@ impl<S: Alter> Tables<S> {
         let Some(was) = self.at_hand.get(&code).copied() else {
             return;
         };
-        if was.reached == u64::MAX || was.held == 0 {
-            self.at_hand.clear();
-            return;
+        match was.one_judged() {
+            Some(now) => self.note(code, now),
+            None => self.at_hand.clear(),
         }
-        let reached = was.reached + 1;
-        let held = was.held - 1;
-        self.note(code, AtHand { reached, held });
     }
 
-    // What is at hand of a custodian from now on; where there is no memory for it, nothing of any.
-    fn note(&mut self, code: Code, at_hand: AtHand)
+    /// What is at hand of a custodian from now on; where there is no memory for it, nothing of any.
+    pub(crate) fn note(&mut self, code: Code, at_hand: AtHand)
         ensures conn { self.new.conn ≡ self.old.conn }
         ensures failures { self.new.failures ≡ self.old.failures }
         ensures own { IfSome (get nat_cmp self.new.at_hand code) (λ h. h ≡ at_hand) }

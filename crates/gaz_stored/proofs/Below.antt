@@ -24,7 +24,8 @@ use Rattle.gaz_hub.proofs.Advancing.{may_keep}
 use Rattle.gaz_hub.proofs.HubRuns.{runs_still, runs_then}
 use Rattle.gaz_hub.proofs.Looks.{left_not_open}
 use Rattle.gaz_mirror.specs.Mirrored.{seen_mirrored}
-use Rattle.gaz_mirror.specs.Mirroring.{content_of, mirrored, progress_with, stands_below}
+use Rattle.gaz_mirror.specs.Mirroring.{content_of, mirrored, progress_with}
+use Rattle.gaz_mirror.proofs.Readings.{stands_below}
 use Rattle.gaz_mirror.specs.declared.gathered.Gathered.{Gathered}
 use Rattle.gaz_loaded.specs.Files.{OnlyReads}
 use Rattle.gaz_register.specs.Registers.{RegisterValue}

@@ -26,7 +26,7 @@ use Rattle.gaz_hub.specs.Standing.{HasAllOf}
 use Rattle.gaz_hub.specs.Step.{HubState}
 use Rattle.gaz_hub.proofs.Growing.{every_grown_run_holds, growth_keeps_holds}
 use Rattle.gaz_hub.proofs.Receiving.{received_more, run_has_all, run_received}
-use Rattle.gaz_stored.specs.Calls.{AllStayIn, AreAllPeriods, ArePeriodsOf, Call, CallsAreOne, CameTo, CutOff, FollowOn, Grew, IsFoundAfter, Moved, Refused, StaysIn, Used, Whole, found_last, period}
+use Rattle.gaz_stored.specs.Calls.{ArePeriodsOf, CallsAreOne, CameTo, CutOff, GoesOnGrown, Grew, IsFoundAfter, Moved, Refused, StaysIn, Used, Whole, found_last, period}
 use Rattle.gaz_stored.specs.Extending.{StandsStill}
 use Rattle.gaz_stored.specs.Migrating.{MigratesOpened, told_of}
 use Rattle.gaz_stored.specs.Runs.{GoesOn, IsStoreOf, StandForRun, hub_in}
@@ -205,39 +205,24 @@ module _ {S : Type 0} (g : Ghosts S) where
   stays_more (Moved register told migrates) files bigger all stays = tt
   stays_more (Refused refused) files bigger all stays = tt
 
-  -- calls one after another lead to this
-  record Lead (register : RegisterValue) (db : Database) (calls : List (Call g)) : Type 0 where
-    periods : List Period
-    periods_are : AreAllPeriods g calls periods
-    run : GrownRun register (hub_in db) periods (hub_in (found_last g db calls))
-    store : IsStoreOf (last_register register periods) (found_last g db calls)
-    stay : AllStayIn g calls (hub_in (found_last g db calls)).received
+  -- a run of a hub whose register grows, from a store to what is found
+  grown_on : (register : RegisterValue) (db found : Database) (periods : List Period) → IsStoreOf register db → GrownRun register (hub_in db) periods (hub_in found)
+      → IsStoreOf (last_register register periods) found → GoesOnGrown register (hub_in db) periods found
+  grown_on register db found periods store run last =
+      record { run = run; abides = every_grown_run_holds register (hub_in db) (hub_in found) periods store.stands.known store.stands.partial run; store = last }
 
-  lead : (register : RegisterValue) (db : Database) (calls : List (Call g)) → IsRegister register → IsStoreOf register db → FollowOn g db calls → Lead register db calls
-  lead register db [] is store follow = record { periods = []; periods_are = refl; run = refl; store = store; stay = tt }
-  lead register db (call ∷ later) is store follow =
+  pub calls_are_one : CallsAreOne g
+  calls_are_one register db [] is store follow = record { periods = []; periods_are = refl; goes_on = grown_on register db db [] store refl store; stay = tt }
+  calls_are_one register db (call ∷ later) is store follow =
       let one = leads register call.before call.after is (subst (IsStoreOf register) (sym follow.0) store) call.found call.came call.is_found in
-      let rest = lead (last_register register one.periods) call.found later one.last one.store follow.1 in
+      let rest = calls_are_one (last_register register one.periods) call.found later one.last one.store follow.1 in
       let first = subst (λ (d : Database). GrownRun register (hub_in d) one.periods (hub_in call.found)) follow.0 one.run in
       let last = found_last g call.found later in
       record {
         periods = one.periods ++ rest.periods;
         periods_are = (one.periods, rest.periods, one.periods_are, rest.periods_are, refl);
-        run = runs_then register (hub_in db) (hub_in call.found) (hub_in last) one.periods rest.periods first rest.run;
-        store = subst (λ r. IsStoreOf r last) (last_then register one.periods rest.periods) rest.store;
-        stay = (stays_more call.came (hub_in call.found).received (hub_in last).received (all_then (last_register register one.periods) (hub_in call.found) (hub_in last) rest.periods rest.run) one.stays, rest.stay);
-      }
-
-  pub calls_are_one : CallsAreOne g
-  calls_are_one register db calls is store follow =
-      let it = lead register db calls is store follow in
-      record {
-        periods = it.periods;
-        periods_are = it.periods_are;
-        goes_on = record {
-          run = it.run;
-          abides = every_grown_run_holds register (hub_in db) (hub_in (found_last g db calls)) it.periods store.stands.known store.stands.partial it.run;
-          store = it.store;
-        };
-        stay = it.stay;
+        goes_on = grown_on register db last (one.periods ++ rest.periods) store
+            (runs_then register (hub_in db) (hub_in call.found) (hub_in last) one.periods rest.periods first rest.goes_on.run)
+            (subst (λ r. IsStoreOf r last) (last_then register one.periods rest.periods) rest.goes_on.store);
+        stay = (stays_more call.came (hub_in call.found).received (hub_in last).received (all_then (last_register register one.periods) (hub_in call.found) (hub_in last) rest.periods rest.goes_on.run) one.stays, rest.stay);
       }

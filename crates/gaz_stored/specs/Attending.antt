@@ -10,7 +10,7 @@ use Rattle.gaz_stored.specs.declared.attending.Unserved.TheVariants.{NoPort, Unw
 abbrev pub listening : ℕ → List ℕ
 listening port = codes "listening 127.0.0.1:" ++ (decimal port ++ codes "\n")
 
--- it was written, of the port that was had
+-- where peers come was written, of the port that was had
 abbrev pub SaysWhere : Option ℕ → Option (List ℕ) → Option (List ℕ) → Type 0
 SaysWhere None held holds = ⊥
 SaysWhere (Some port) held holds = Appends held holds (listening port)

@@ -61,7 +61,8 @@ module _ {K : Type 0} (seen : K → Seen) (most : ℕ) (old : Hub K) where
         → InTurn (served + 1) new (met ++ more) (commands ++ commands_at turn)
         (responses ++ responses_at turn)
 
--- it served so many connections, one after another, which is a run of its steps; this came of them
+-- a hub served so many connections, one after another, which is a run of its steps; this came of
+-- them
 pub record Serves {K : Type 0} (seen : K → Seen) (most served : ℕ) (old new : Hub K)
     (met : List Meeting) : Type 0 where
   pub commands : List Command

@@ -24,7 +24,7 @@ use Rattle.gaz_stored.specs.Ways.{GoesBy, Way}
 abbrev pub seen_as : {S R : Type 0} → {g : Ghosts S} → List ℕ → keeper.Ghosts (Store S R g)
 seen_as text = record { seen = seen_in text }
 
--- the same store, whatever names its register
+-- two values are the same store, whatever names its register
 pub record IsSame {S R N : Type 0} {g : Ghosts S} (one : Store S R g) (other : Store S N g)
     : Type 0 where
   pub tables : other.tables ≡ one.tables

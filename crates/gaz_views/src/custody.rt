@@ -17,7 +17,7 @@ impl Custody {
     /// How often the number had passed on by then, this time too: 1 to 9,999.
     pub fn hop(&self) -> u64
         ensures value { result ≡ hop_in self.now }
-        ensures range { result ≤ 9999 }
+        ensures range { (1 ≤ result) × (result ≤ 9999) }
     {
         match self {
             Custody::Released { hop, .. } => hop.number(),

@@ -16,7 +16,7 @@ word name = record (new_rule name) { required = true; action = Some Set }
 abbrev pub path : Text → Rule
 path name = record (word name) { long = Some name; value_names = 1 }
 
--- so a number up to this
+-- a number up to this behind a word of its own, which has to be there
 abbrev pub number : Text → ℕ → Rule
 number name most = record (path name) { parser = Some (Unsigned 0 most) }
 

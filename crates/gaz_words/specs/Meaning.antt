@@ -26,12 +26,12 @@ names = codes "play" ∷ codes "init" ∷ codes "submit" ∷ codes "status" ∷ 
 abbrev pub IsAt : List Row → Text → Text → Type 0
 IsAt rows name word = first_of name rows ≡ Some word
 
--- so was this number, where a plus may stand first
+-- this number was written for the argument of this name, where a plus may stand first
 abbrev pub IsNumberAt : List Row → Text → ℕ → Type 0
 IsNumberAt rows name n = (word : Text) × IsAt rows name word
     × IsNumeral 10 (without_leading_plus word) × (n ≡ digits_value 10 (without_leading_plus word))
 
--- these paths were
+-- these paths were written for `--store` and `--register`
 abbrev pub AreAt : List Row → Places → Type 0
 AreAt rows places =
     IsAt rows (codes "store") places.store.now × IsAt rows (codes "register") places.register.now

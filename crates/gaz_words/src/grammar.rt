@@ -1,90 +1,13 @@
-//! Which words there are, and what help says of them.
+//! Which words there are, and what help says of each argument.
 ghost use Rattle.std.specs.Prelude.{IfOk, codes};
 ghost use Rattle.clap.specs.Words.{App, Rule, with_rule};
 ghost use Rattle.gaz_words.specs.Grammar.{IsArgument, IsCommand};
 ghost use Rattle.gaz_words.specs.Grammar as spec;
 
+use crate::help;
 use clap::builder::ValueParser;
 use clap::{Arg, ArgAction, Command};
 use std::alloc::{AllocError, Global};
-
-const ABOUT: &str = "A hub for street and property gazetteers";
-
-const PLAY: &str = "Answers HTTP requests on standard input, over a store in memory [default]";
-
-const INIT: &str = "Makes a store";
-
-const SUBMIT: &str = "Submits a change file";
-
-const STATUS: &str = "Says how far a custodian's files are judged";
-
-const LINE: &str = "Prints the address line of a property";
-
-const EXTRACT: &str = "Prints a custodian's gazetteer after a volume";
-
-const SERVE: &str = "Answers HTTP requests on 127.0.0.1, over a store";
-
-const EXTEND: &str = "Gives a store a register that grew";
-
-const MIGRATE: &str = "Brings a store of schema 1 up to date";
-
-const INIT_EXAMPLE: &str = "Example: gazhub init --store hub.db --register register.toml
-
-Prints: ready
-Exit status: 0 made, 2 usage, 3 fault";
-
-const SUBMIT_EXAMPLE: &str =
-    "Example: gazhub submit --store hub.db --register register.toml 1001 1 streets.csv
-
-Prints what became of the file:
-  new applied                     it was received now, and all its changes stand
-  new rejected record 3 rule 21   record 3 (the header is 1) breaks rule 21; nothing of it stands
-  new held wants 1001/2           it waits for volume 2 of custodian 1001
-  repeat applied                  the same file was received before
-  taken DIGEST                    another file was, with this SHA-256
-  refused 11                      custodian unknown (12: no volume; 13: too large; 16: profile)
-Exit status: 0 applied, 1 any other of these, 2 usage, 3 fault";
-
-const STATUS_EXAMPLE: &str = "Example: gazhub status --store hub.db --register register.toml 1001
-
-Prints: custodian 1001 judged 2 held 1 wants 1001/3
-  refused 11                      custodian unknown
-Exit status: 0 known, 1 refused, 2 usage, 3 fault";
-
-const LINE_EXAMPLE: &str = "Example: gazhub line --store hub.db --register register.toml 42
-
-Prints: Flat 2, 12A-14 High Street, Arden, AR1 2DN
-  none                            nobody has the property, or it has no approved address
-Exit status: 0 printed, 1 none, 2 usage, 3 fault";
-
-const EXTRACT_EXAMPLE: &str =
-    "Example: gazhub extract --store hub.db --register register.toml 1001 2
-
-Prints: the extract, in CSV
-  none                            the volume isn't reached
-  refused 11                      custodian unknown (12: no volume)
-Exit status: 0 printed, 1 none or refused, 2 usage, 3 fault";
-
-const SERVE_EXAMPLE: &str =
-    "Example: gazhub serve --store hub.db --register register.toml --port 8080 --connections 100
-
-Prints: listening 127.0.0.1:8080
-Answers connections one after the other, and ends behind the last of them.
-Exit status: 0 all were answered, 2 usage, 3 fault";
-
-const EXTEND_EXAMPLE: &str =
-    "Example: gazhub extend --store hub.db --register register.toml --grown grown.toml
-
-Prints: extended
-  refused 61                      a custodian is no longer there
-  refused 62                      a custodian has other blocks
-Exit status: 0 extended, 1 refused, 2 usage, 3 fault";
-
-const MIGRATE_EXAMPLE: &str = "Example: gazhub migrate --store hub.db --register register.toml
-
-Prints: migrated
-  current                         the store is up to date and stays as it is
-Exit status: 0 migrated or current, 2 usage, 3 fault";
 
 /// The greatest port, and the most connections.
 const MOST_PORT: u64 = 65_535;
@@ -161,13 +84,13 @@ fn volume<'a>(alloc: Global) -> Arg<'a>
 fn init<'a>(alloc: Global) -> Result<Command<'a>, AllocError>
     ensures { IfOk result (IsCommand (spec.over_store (codes "init"))) }
 {
-    over_store(alloc, "init", INIT, INIT_EXAMPLE)
+    over_store(alloc, "init", help::INIT, help::INIT_EXAMPLE)
 }
 
 fn submit<'a>(alloc: Global) -> Result<Command<'a>, AllocError>
     ensures { IfOk result (IsCommand spec.submit) }
 {
-    let command = over_store(alloc, "submit", SUBMIT, SUBMIT_EXAMPLE);
+    let command = over_store(alloc, "submit", help::SUBMIT, help::SUBMIT_EXAMPLE);
     let command = takes(takes(command, code(alloc)), volume(alloc));
     takes(command, word(alloc, "FILE", "The change file, in CSV"))
 }
@@ -175,7 +98,7 @@ fn submit<'a>(alloc: Global) -> Result<Command<'a>, AllocError>
 fn status<'a>(alloc: Global) -> Result<Command<'a>, AllocError>
     ensures { IfOk result (IsCommand spec.status) }
 {
-    let command = over_store(alloc, "status", STATUS, STATUS_EXAMPLE);
+    let command = over_store(alloc, "status", help::STATUS, help::STATUS_EXAMPLE);
     takes(command, code(alloc))
 }
 
@@ -183,13 +106,16 @@ fn line<'a>(alloc: Global) -> Result<Command<'a>, AllocError>
     ensures { IfOk result (IsCommand spec.line) }
 {
     let uprn = word(alloc, "UPRN", "The property's number, of at most 12 digits");
-    takes(over_store(alloc, "line", LINE, LINE_EXAMPLE), uprn)
+    takes(
+        over_store(alloc, "line", help::LINE, help::LINE_EXAMPLE),
+        uprn,
+    )
 }
 
 fn extract<'a>(alloc: Global) -> Result<Command<'a>, AllocError>
     ensures { IfOk result (IsCommand spec.extract) }
 {
-    let command = over_store(alloc, "extract", EXTRACT, EXTRACT_EXAMPLE);
+    let command = over_store(alloc, "extract", help::EXTRACT, help::EXTRACT_EXAMPLE);
     takes(takes(command, code(alloc)), volume(alloc))
 }
 
@@ -210,7 +136,7 @@ fn connections<'a>(alloc: Global) -> Arg<'a>
 fn serve<'a>(alloc: Global) -> Result<Command<'a>, AllocError>
     ensures { IfOk result (IsCommand spec.serve) }
 {
-    let command = over_store(alloc, "serve", SERVE, SERVE_EXAMPLE);
+    let command = over_store(alloc, "serve", help::SERVE, help::SERVE_EXAMPLE);
     takes(takes(command, port(alloc)), connections(alloc))
 }
 
@@ -218,14 +144,14 @@ fn extend<'a>(alloc: Global) -> Result<Command<'a>, AllocError>
     ensures { IfOk result (IsCommand spec.extend) }
 {
     let help = "The file of the register that it grows to, in TOML";
-    let command = over_store(alloc, "extend", EXTEND, EXTEND_EXAMPLE);
+    let command = over_store(alloc, "extend", help::EXTEND, help::EXTEND_EXAMPLE);
     takes(command, path(alloc, "grown", "GROWN", help))
 }
 
 fn migrate<'a>(alloc: Global) -> Result<Command<'a>, AllocError>
     ensures { IfOk result (IsCommand (spec.over_store (codes "migrate"))) }
 {
-    over_store(alloc, "migrate", MIGRATE, MIGRATE_EXAMPLE)
+    over_store(alloc, "migrate", help::MIGRATE, help::MIGRATE_EXAMPLE)
 }
 
 // The program without a command.
@@ -233,7 +159,8 @@ fn program<'a>(alloc: Global) -> Result<Command<'a>, AllocError>
     ensures { IfOk result (IsCommand spec.program) }
 {
     let program = Command::new(alloc, "gazhub").no_binary_name(true);
-    Ok(program.bin_name("gazhub")?.version("0.1.0").about(ABOUT))
+    let named = program.bin_name("gazhub")?;
+    Ok(named.version("0.1.0").about(help::ABOUT))
 }
 
 // The program with one more command.
@@ -253,7 +180,9 @@ fn with<'a>(
 fn with_asking<'a>(alloc: Global) -> Result<Command<'a>, AllocError>
     ensures { IfOk result (IsCommand spec.asking) }
 {
-    let play = Command::new(alloc, "play").about(PLAY);
+    let play = Command::new(alloc, "play")
+        .about(help::PLAY)
+        .after_help(help::PLAY_EXAMPLE);
     let program = with(program(alloc), Ok(play));
     let program = with(program, init(alloc));
     let program = with(program, submit(alloc));

@@ -3,6 +3,7 @@
 
 mod command;
 mod grammar;
+mod help;
 pub mod laws;
 
 pub use command::{Call, Command, Places, Serving, asks_play, read};

@@ -1,5 +1,5 @@
 -- What is said of what was done over a store's files, or why it wasn't.
-use Rattle.std.proofs.Common.{◌≡◌, ◌≢◌, ◌↔◌, Ok, Err, Option, Result, IsTrue, IfErr, inl, inr, refl}
+use Rattle.std.proofs.Common.{◌≡◌, ◌≢◌, ◌↔◌, Ok, Err, Option, Result, IsTrue, IfErr, ap, inl, inr, refl}
 use Rattle.std.specs.declared.marker.Brand.{Brand}
 use Rattle.sqlite.specs.Files.{file_state, over_files}
 use Rattle.sqlite.specs.Held.{Held}
@@ -18,7 +18,7 @@ use Rattle.gaz_stored.specs.Migrating as migrating
 use Rattle.gaz_stored.specs.Migrating.{StopsMoving}
 use Rattle.gaz_stored.specs.Using as stored
 use Rattle.gaz_stored.specs.declared.migrating.Migration.{Migration}
-use Rattle.gazhub.specs.Filing.{Closes, Connects, FindsTables, HasNeither, HasNoNewStore, HasNoStore, MakesNone, MigratesNone, OpensNone, OverFiles}
+use Rattle.gazhub.specs.Filing.{Closes, Connects, FindsTables, HasNoNewStore, HasNoStore, MakesNone, MigratesNone, OpensNone, OverFiles}
 
 -- what is told is told for this reason
 why_is : {T : Type 0} {refusal why : StoreRefusal} → ◌≡◌ {A = Result T StoreRefusal} (Err refusal) (Err why) → refusal ≡ why
@@ -33,23 +33,22 @@ module _ {D : Type 0} (g : disk.Ghosts D) (files : Files D) (left : Option (File
     opens_none (Ok told) lacks = tt
     opens_none (Err refusal) lacks =
         let why : HasNoStore g register refusal conn back =
-        record { refused = lacks.refused; lacking = λ none. why_is (lacks.lacking none); rows = lacks.rows; judged = lacks.judged; untouched = lacks.untouched } in
+        record { lacking = λ none. ap Err (why_is (lacks.lacking none)); rows = lacks.rows; judged = lacks.judged; refused = lacks.refused; untouched = lacks.untouched } in
         inr (over _ why)
 
     pub migrates_none : (held : Result Migration StoreRefusal) → StopsMoving over_files register conn back → migrating.LacksBoth over_files register conn back held → IfErr held (MigratesNone g files left register)
     migrates_none (Ok told) stops lacks = tt
     migrates_none (Err refusal) stops lacks =
-        let why : HasNeither g register refusal conn back =
+        let why : migrating.LacksBoth over_files register conn back {T = Unit {0}} (Err refusal) =
         record {
-          refused = lacks.refused;
-          lacking = λ none none_first. why_is (lacks.lacking none none_first);
+          lacking = λ none none_first. ap Err (why_is (lacks.lacking none none_first));
           rows = lacks.rows;
           judged = lacks.judged;
           rows_first = lacks.rows_first;
           judged_first = lacks.judged_first;
-          stops = stops;
+          refused = lacks.refused;
         } in
-        inr (over _ why)
+        inr (over _ (why, stops))
 
   -- why none was made
   module _ (result : Result (Store (FileStore D g) Brand over_files) (Held (FileStore D g) × StoreRefusal)) (refused : IsRefused over_files conn back)

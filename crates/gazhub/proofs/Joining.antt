@@ -91,5 +91,5 @@ module _ {D : Type 0} (g : disk.Ghosts D) where
         let before = clean_before (file_state over.conn) (file_state over.after) over.does.untouched.leaves clean in
         just_a_fault refusal (opens register old over.conn over.after files store fine closes over.connects before (Err refusal) clean over.does.judged);
     migrates = λ register old files left refusal store fine closes over before clean.
-        just_a_fault refusal (opens register old over.conn over.after files store fine closes over.connects before (Err refusal) clean over.does.judged);
+        just_a_fault refusal (opens register old over.conn over.after files store fine closes over.connects before (Err refusal) clean over.does.0.judged);
   }

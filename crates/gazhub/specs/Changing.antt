@@ -27,7 +27,7 @@ said_of_growth (Ok (Ok done)) = Ok (said.Line printed.Extended)
 said_of_growth (Ok (Err why)) = not_extended why
 said_of_growth (Err why) = Err (none.Store why)
 
--- and of its schema
+-- what is said of a store that was to be migrated, or why there is none
 abbrev pub said_of_migration : Result Migration StoreRefusal → Result Said NoHub
 said_of_migration (Ok migration.Done) = Ok (said.Line printed.Migrated)
 said_of_migration (Ok migration.Current) = Ok (said.Line printed.Current)

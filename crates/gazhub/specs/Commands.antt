@@ -19,8 +19,6 @@ use Rattle.gaz_stored.specs.Answering.{IsUnheard}
 use Rattle.gaz_words.specs.Meaning.{Means}
 use Rattle.gaz_words.specs.Words.{asks_play}
 use Rattle.gaz_words.specs.declared.command.Command.{Command}
-use Rattle.gaz_words.specs.declared.command.Places.{Places}
-use Rattle.gaz_words.specs.declared.command.Serving.{Serving}
 use Rattle.gaz_words.specs.declared.command.Command.TheVariants.{Play, Init, Ask, Serve}
 use Rattle.gaz_words.specs.declared.command.Command.TheVariants.{Extend, Migrate}
 use Rattle.gazhub.specs.Endings.{is_silent, line_of, status_of}
@@ -100,19 +98,15 @@ module _ {S D : Type 0} (done : S → Deed D → S → Type 0) (g : disk.Ghosts 
   abbrev pub EndsPlaying : Ending → Type 0
   EndsPlaying ending = Holds text most through ending × (after ≡ before)
 
-  -- connections are answered
-  pub record EndsServing (places : Places) (serving : Serving) (ending : Ending) : Type 0 where
-    pub serves : ServeComesTo done g places serving.port serving.connections through.held
-        through.holds before after ending
-    pub silent : StaysSilent through ending
-
   -- how the program ends, by the command
   abbrev pub EndsAt : Command → Ending → Type 0
   EndsAt Play ending = EndsPlaying ending
   EndsAt (Init places) ending = Finishes (InitComesTo done g places before after) through ending
   EndsAt (Ask places call) ending =
       Finishes (AskComesTo done g places call before after) through ending
-  EndsAt (Serve places serving) ending = EndsServing places serving ending
+  EndsAt (Serve places serving) ending =
+      ServeComesTo done g places serving.port serving.connections through.held through.holds
+      before after ending × StaysSilent through ending
   EndsAt (Extend places path) ending =
       Finishes (ExtendComesTo done g places path.now before after) through ending
   EndsAt (Migrate places) ending =

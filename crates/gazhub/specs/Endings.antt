@@ -15,12 +15,7 @@ abbrev pub status_of : Ending → ℕ
 status_of ending.Done = 0
 status_of ending.NotDone = 1
 status_of ending.Usage = 2
-status_of ending.Memory = 3
-status_of ending.ReadFault = 3
-status_of ending.WriteFault = 3
-status_of (ending.NoHub why) = 3
-status_of (ending.Lost why) = 3
-status_of (ending.Failed why) = 3
+status_of _ = 3
 
 -- the line that names the fault of a register
 abbrev pub register_line : RegFault → List ℕ
@@ -48,7 +43,7 @@ no_hub_line (none.Store why) = refusal_line why
 no_hub_line none.NoPort = codes "gazhub: NoPort\n"
 no_hub_line none.Memory = codes "gazhub: Memory\n"
 
--- the line on standard error, which names the fault
+-- the line on standard error, which names the fault, where there is one
 abbrev pub line_of : Ending → List ℕ
 line_of ending.Memory = codes "gazhub: Memory\n"
 line_of ending.ReadFault = codes "gazhub: ReadFault\n"
@@ -56,9 +51,7 @@ line_of ending.WriteFault = codes "gazhub: WriteFault\n"
 line_of (ending.NoHub why) = no_hub_line why
 line_of (ending.Lost why) = no_hub_line why
 line_of (ending.Failed why) = error_line why
-line_of ending.Done = []
-line_of ending.NotDone = []
-line_of ending.Usage = []
+line_of _ = []
 
 -- nothing is printed on standard output: at usage, and at each fault but that of the output and
 -- that of a hub that was lost
@@ -67,8 +60,4 @@ is_silent ending.Done = false
 is_silent ending.NotDone = false
 is_silent ending.WriteFault = false
 is_silent (ending.Lost why) = false
-is_silent ending.Usage = true
-is_silent ending.Memory = true
-is_silent ending.ReadFault = true
-is_silent (ending.NoHub why) = true
-is_silent (ending.Failed why) = true
+is_silent _ = true

@@ -17,8 +17,7 @@ use Rattle.sqlite_wal.specs.Reads.{AreClean}
 use Rattle.gaz_register.specs.Registers.{RegisterValue}
 use Rattle.gaz_register.specs.Texts.{register_text}
 use Rattle.gaz_tables.specs.Creating.{MayCreate}
-use Rattle.gaz_kept.specs.Opening.{Judges, Tells, Untouched, has_all, has_any, schema_number}
-use Rattle.gaz_kept.specs.OpeningFirst.{JudgesFirst, TellsFirst, has_first}
+use Rattle.gaz_kept.specs.Opening.{Untouched, has_any, schema_number}
 use Rattle.gaz_kept.specs.declared.refusal.StoreRefusal.{StoreRefusal}
 use Rattle.gaz_kept.specs.declared.refusal.StoreRefusal.TheVariants.{BadSchema, Fault}
 use Rattle.gaz_store.specs.Opened.{IsMade, IsRefused}
@@ -28,8 +27,8 @@ use Rattle.gaz_store.specs.declared.store.Store.{Store}
 use Rattle.gaz_hub.specs.Step.{Command}
 use Rattle.gaz_stored.specs.Extending.{ExtendsOpened}
 use Rattle.gaz_stored.specs.Meetings.{Meeting}
-use Rattle.gaz_stored.specs.Migrating.{MigratesOpened, StopsMoving}
-use Rattle.gaz_stored.specs.Using.{UsesOpened, seen_as}
+use Rattle.gaz_stored.specs.Migrating.{LacksBoth, MigratesOpened, StopsMoving}
+use Rattle.gaz_stored.specs.Using.{LacksStore, UsesOpened, seen_as}
 use Rattle.gaz_stored.specs.Ways.{Asks, Attends, Way}
 use Rattle.gaz_stored.specs.declared.attending.Unserved.{Unserved}
 use Rattle.gaz_stored.specs.declared.migrating.Migration.{Migration}
@@ -84,28 +83,18 @@ module _ {D : Type 0} (g : disk.Ghosts D) where
     pub why : FindsTables refusal conn back
     pub leaves : MayCreate over_files conn back schema_number (register_text register)
 
-  -- none of the register is there, and nothing is written: a table or a column is missing, or that
-  -- is told of the row of `meta`
-  pub record HasNoStore (register : RegisterValue) (refusal : StoreRefusal)
-      (conn back : Held (FileStore D g)) : Type 0 where
-    pub refused : IsRefused over_files conn back
-    pub lacking : has_all (file_state conn).now.schema ≡ false → refusal ≡ BadSchema
-    pub rows : Tells over_files conn back (Err refusal) (register_text register)
-    pub judged : Judges over_files conn back (Err refusal) (register_text register)
-    pub untouched : Untouched over_files conn back
+  -- none of the register is there, for this reason, and nothing is written
+  abbrev pub HasNoStore : RegisterValue → StoreRefusal → Held (FileStore D g)
+      → Held (FileStore D g) → Type 0
+  HasNoStore register refusal conn back =
+      LacksStore over_files register {T = Unit {0}} conn back (Err refusal)
 
-  -- none of either schema is there: tables or columns of both are missing, or that is told of the
-  -- row of `meta`
-  pub record HasNeither (register : RegisterValue) (refusal : StoreRefusal)
-      (conn back : Held (FileStore D g)) : Type 0 where
-    pub refused : IsRefused over_files conn back
-    pub lacking : has_all (file_state conn).now.schema ≡ false
-        → has_first (file_state conn).now.schema ≡ false → refusal ≡ BadSchema
-    pub rows : Tells over_files conn back (Err refusal) (register_text register)
-    pub judged : Judges over_files conn back (Err refusal) (register_text register)
-    pub rows_first : TellsFirst over_files conn back (Err refusal) (register_text register)
-    pub judged_first : JudgesFirst over_files conn back (Err refusal) (register_text register)
-    pub stops : StopsMoving over_files register conn back
+  -- none of either schema is there, for this reason, and this is what a stop leaves
+  abbrev pub HasNeither : RegisterValue → StoreRefusal → Held (FileStore D g)
+      → Held (FileStore D g) → Type 0
+  HasNeither register refusal conn back =
+      LacksBoth over_files register conn back {T = Unit {0}} (Err refusal)
+      × StopsMoving over_files register conn back
 
   -- Below, the files are those that are given, and those that are given back.
   module _ (files : Files D) (left : Option (Files D)) where
@@ -165,13 +154,10 @@ module _ {D : Type 0} (g : disk.Ghosts D) where
     -- ---- it is migrated
 
     -- it was migrated, or was of schema 2 already; and this is what a stop leaves of it
-    pub record MigratesOver (register : RegisterValue) (told : Migration)
-        (conn after : Held (FileStore D g)) : Type 0 where
-      pub migrates : MigratesOpened over_files register conn after told
-      pub stops : StopsMoving over_files register conn after
-
     abbrev pub MigratesStore : RegisterValue → Migration → Type 0
-    MigratesStore register told = OverFiles (MigratesOver register told)
+    MigratesStore register told =
+        OverFiles (λ conn after. MigratesOpened over_files register conn after told
+        × StopsMoving over_files register conn after)
 
     -- there is none of either schema
     abbrev pub MigratesNone : RegisterValue → StoreRefusal → Type 0

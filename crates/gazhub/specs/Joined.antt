@@ -71,7 +71,7 @@ module _ {D : Type 0} (g : disk.Ghosts D) where
   came_over (Extended register grown told is are extends) =
       said_as (λ _ _ it. Grew register grown told is are it) extends
   came_over (Migrated register told migrates) =
-      said_as (λ _ _ it. Moved register told it.migrates) migrates
+      said_as (λ _ _ it. Moved register told it.0) migrates
   came_over (Declined refused) = said_as (λ _ _ it. Refused it) refused
 
   -- a call, and what is found after it

@@ -12,15 +12,12 @@ use Rattle.gaz_stored.specs.declared.attending.Unserved.TheVariants.{NoPort, Unw
 use Rattle.gaz_words.specs.declared.command.Places.{Places}
 use Rattle.gazhub.specs.Filing.{OpensNone, ServesStore}
 use Rattle.gazhub.specs.Sites.{Closed, Deed, Does, Listened, Met, WithFiles, WithRegister}
+use Rattle.gaz_stored.specs.declared.connections.TheConstants.{MOST_REQUESTS}
 use Rattle.gazhub.specs.declared.ending.Ending.{Ending}
 use Rattle.gazhub.specs.declared.ending.Ending.TheVariants.{Done, Lost, NoHub, WriteFault}
 use Rattle.gazhub.specs.declared.files.NoHub.{NoHub as WhyNoHub}
 use Rattle.gazhub.specs.declared.files.NoHub.TheVariants as none
 use Rattle.gazhub.specs.declared.site.Purpose.TheVariants.{Use}
-
--- the most requests that are answered at a connection
-abbrev pub most_requests : ℕ
-most_requests = 1_000
 
 -- how many connections were answered, none where nobody could be told where they come; or why
 -- there was no hub or no port for them
@@ -47,7 +44,7 @@ module _ {S D : Type 0} (done : S → Deed D → S → Type 0) (g : disk.Ghosts 
     pub met : List Meeting
     pub does : Does done before (Listened port bound ∷ (map Met met ++ Closed left ∷ [])) after
     pub announced : IsAnnounced bound had has held
-    pub serves : IfOk held (λ how. ServesStore g files left register most_requests how met)
+    pub serves : IfOk held (λ how. ServesStore g files left register MOST_REQUESTS how met)
     pub some : IfOk held (λ served. IfOk served (AreSome connections))
     pub none : IfErr held (OpensNone g files left register)
     pub nobody : OnErr held (met ≡ [])

@@ -71,8 +71,7 @@ impl<'a> Host<'a> {
 
     // The bytes of the file at a path; none where nothing is there.
     fn size_at(&self, path: &str) -> Option<u64> {
-        let found = fs::metadata(self.rt, path).ok()?;
-        Some(found.len())
+        Some(fs::metadata(self.rt, path).ok()?.len())
     }
 
     // Says what is being done with a store's file of so many bytes, where that takes over a second

@@ -1,5 +1,5 @@
 //! Commands over a store's two files, whatever disk they are on.
-ghost use Rattle.std.specs.Prelude.{◌≡◌, false, IfErr, IfOk, IfSome, IsTrue, option_map};
+ghost use Rattle.std.specs.Prelude.{◌≡◌, false, IfErr, IfOk, IsTrue, option_map};
 ghost use Rattle.gaz_stored.specs.Asking.{asked};
 ghost use Rattle.gaz_stored.specs.Attending.{IsAnnounced};
 ghost use Rattle.gaz_stored.specs.Meetings.{WithPeers};

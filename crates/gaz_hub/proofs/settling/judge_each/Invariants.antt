@@ -13,5 +13,5 @@ invariant-loop-code g l =
     record {
       tries : Tries (door_of l.register) l.left a b (Ok l.judged) (λ c. ⊥);
       rest : RestAfter (take l.code-index l.codes) (door_of l.register) l.fn.waiters a l.waiters b;
-      ahead : l.judged ≡ 0 → l.waiters.0 ≡ l.fn.waiters.0;
+      ahead : l.judged ≡ 0 → l.waiters.ahead ≡ l.fn.waiters.ahead;
     }

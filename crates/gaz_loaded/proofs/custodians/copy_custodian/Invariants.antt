@@ -2,7 +2,8 @@
 use Rattle.std.proofs.Common.{◌≡◌}
 use Rattle.gaz_keeper.specs.Keeper.{Idle}
 use Rattle.gaz_shelf.specs.Mem.{content_in, seen_in}
-use Rattle.gaz_loaded.specs.Files.{Copies, HasUntil, OnlyReads}
+use Rattle.gaz_loaded.specs.Files.{Copies, OnlyReads}
+use Rattle.gaz_loaded.proofs.Custodian.{HasUntil}
 use Rattle.gaz_loaded.proofs.custodians.copy_custodian.Given as goal
 
 abbrev pub invariant-loop : goal.invariant-loop

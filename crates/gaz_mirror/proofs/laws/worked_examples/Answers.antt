@@ -55,9 +55,6 @@ released_there v to hop = finite.get-insert nat_cmp_total v.custody 500 (Release
 adopted_or_released : (from to m n : ℕ) → Adopted from m ≢ Released to n
 adopted_or_released from to m n same = cc
 
-to_another : Released 1001 2 ≢ Released 1002 1
-to_another same = cc
-
 -- what was adopted is released to nobody
 taken_told_apart : (v w : View) (to hop : ℕ) → with_adoption v alone 1001 1 ≢ with_release w 500 to hop
 taken_told_apart v w to hop = passed_apart _ _ (Adopted 1001 1) (Released to hop) (adopted_there v) (released_there w to hop) (adopted_or_released 1001 to 1 hop)
@@ -106,7 +103,7 @@ returns c = record {
     same = λ view. refl;
     not_a_put = λ same. passed_apart _ _ (Released 1002 1) (Adopted 1001 1) custody_holds.is_given_up (adopted_there given_up) (λ is. adopted_or_released 1001 1002 1 1 (sym is)) (same given_up);
     not_a_take = λ same. passed_apart _ _ (Adopted 1001 1) (Released 1002 1) custody_holds.is_taken (released_there taken 1002 1) (adopted_or_released 1001 1002 1 1) (same taken);
-    not_at_another_hop = λ same. passed_apart _ _ (Released 1001 2) (Released 1002 1) (released_there empty_view 1001 2) (released_there empty_view 1002 1) to_another (same empty_view);
+    not_at_another_hop = λ same. passed_apart _ _ (Released 1001 2) (Released 1002 1) (released_there empty_view 1001 2) (released_there empty_view 1002 1) (λ is. cc) (same empty_view);
     added = λ view. refl;
     lost = λ are. taken_told_apart empty_view taken 1001 2 (are empty_view);
   };

@@ -8,8 +8,8 @@ use Rattle.gaz_store.proofs.passages.passages_in.Goals as goal
 pub loop-row-preserved : goal.loop-row-preserved
 loop-row-preserved c =
     let passages = c.loop-row.passages.items in
-    let x : Passage = record { uprn = c.in_ok-uprn.uprn; born = c.in_ok-born.born; custody = c.in_ok-custody.custody } in
-    let says : SaysPassage c.row-item.result x = record { number = c.in_ok-uprn.ensures; born = c.in_ok-born.ensures; custody = c.in_ok-custody.ensures.said; bare = c.in_ok-custody.ensures.bare } in
+    let x : Passage = record { uprn = c.in_ok-uprn.uprn; born = c.in_ok-passed.passed.born; custody = c.in_ok-passed.passed.custody } in
+    let says : SaysPassage c.row-item.result x = record { number = c.in_ok-uprn.ensures; passed = c.in_ok-passed.ensures } in
     let rows = c.args.rows.now in
     let i = c.loop-row.row-index in
     let pushed = c.push.ensures.items ∙ ap (λ b. if b then passages ++ x ∷ [] else passages) c.if-is_err.ensures.negation in

@@ -1,5 +1,5 @@
 -- Worked examples on calls one after another.
-use Rattle.std.proofs.Common.{◌≡◌, ◌∙◌, Bool, true, false, List, [], ◌∷◌, ◌++◌, refl, sym, true≢false}
+use Rattle.std.proofs.Common.{◌≡◌, ◌∙◌, List, [], ◌∷◌, ◌++◌, refl, sym, true≢false}
 use Rattle.gaz_hub.specs.Growth.{Period}
 use Rattle.gaz_hub.specs.Step.{Command}
 use Rattle.gaz_stored.specs.CallExamples.{WorkedCuts}
@@ -7,15 +7,7 @@ use Rattle.gaz_stored.specs.Examples.{sends}
 use Rattle.gaz_stored.specs.Stopping.{CutReceiving, CutSettling, IsCutTo, cut_receiving}
 use Rattle.gaz_stored.proofs.laws.worked_calls.Goals as goal
 
--- no custodian may go
-gone : ¬ ◌≡◌ {A = Bool} false true
-gone e = absurd (true≢false (sym e))
-
--- nothing is the front of nothing
-none_earlier : (earlier later : List Command) → [] ≡ earlier ++ later → [] ≡ earlier
-none_earlier [] later e = refl
-none_earlier (x ∷ xs) later e = cc
-
+-- nothing has a command in it
 none_next : (command : Command) (earlier later : List Command) → ¬ ([] ≡ earlier ++ command ∷ later)
 none_next command [] later e = absurd (cc)
 none_next command (x ∷ xs) later e = absurd (cc)
@@ -46,7 +38,7 @@ returns g c conn refused fine = record {
   left_by_none = refl;
   of_nothing = λ register db it. let all = it.periods_are in all.4 ∙ joined all.2 (all.3.4 ∙ joined all.3.2 all.3.3);
   of_one = λ register db call p only it. let all = it.periods_are in all.4 ∙ joined all.2 (all.3.4 ∙ joined (only all.3.0 all.3.2) all.3.3);
-  shrinks = λ run. gone (run.1.custodians 1004 refl);
+  shrinks = λ run. absurd (true≢false (sym (run.1.custodians 1004 refl)));
   cuts = cuts_hold;
 }
   where

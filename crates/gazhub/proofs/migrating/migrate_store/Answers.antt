@@ -6,7 +6,7 @@ use Rattle.gazhub.proofs.migrating.migrate_store.Goals as goal
 pub returns-clause-migrates : goal.returns-clause-migrates
 returns-clause-migrates g c =
     let moved = c.migrate_opened-conn in
-    IfOk-weaker moved.result.1 _ _ (λ told migrates. over _ c.args.files c.close-left.result c.in-Ok.conn moved.result.0 c.in-Ok.ensures.had c.close-left.ensures _ (record { migrates = migrates; stops = moved.ensures.stops })) moved.ensures.migrates
+    IfOk-weaker moved.result.1 _ _ (λ told migrates. over _ c.args.files c.close-left.result c.in-Ok.conn moved.result.0 c.in-Ok.ensures.had c.close-left.ensures _ (migrates, moved.ensures.stops)) moved.ensures.migrates
 
 pub returns-clause-none : goal.returns-clause-none
 returns-clause-none g c =

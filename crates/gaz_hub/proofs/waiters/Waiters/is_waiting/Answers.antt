@@ -13,10 +13,10 @@ returns-in-Some c =
     let p : ℕ × ℕ = (c.args.custodian, c.args.volume) in
     c.contains.ensures.value ∙ ap (λ xs. is_among xs c.args.waiter) c.as_slice.ensures
     ∙ ap (λ o. is_among (unwrap_or o []) c.args.waiter)
-    (c.in-Some.ensures.value ∙ sym (get_tree {S = pair_cmp} (λ a b. refl) pairs_total c.self.inside.by_volume.entries p) ∙ ap (λ (m : Remembered). finmap.get m.1.0 p) c.self.view_is)
+    (c.in-Some.ensures.value ∙ sym (get_tree {S = pair_cmp} (λ a b. refl) pairs_total c.self.inside.by_volume.entries p) ∙ ap (λ (m : Remembered). finmap.get m.waiting p) c.self.view_is)
 
 pub returns-in-None : goal.returns-in-None
 returns-in-None c =
     let p : ℕ × ℕ = (c.args.custodian, c.args.volume) in
     ap (λ o. is_among (unwrap_or o []) c.args.waiter)
-    (c.in-None.ensures.value ∙ sym (get_tree {S = pair_cmp} (λ a b. refl) pairs_total c.self.inside.by_volume.entries p) ∙ ap (λ (m : Remembered). finmap.get m.1.0 p) c.self.view_is)
+    (c.in-None.ensures.value ∙ sym (get_tree {S = pair_cmp} (λ a b. refl) pairs_total c.self.inside.by_volume.entries p) ∙ ap (λ (m : Remembered). finmap.get m.waiting p) c.self.view_is)

@@ -18,7 +18,7 @@ returns c =
     let before = c.args.self.now in
     let waits = inserted {S = pair_cmp} (λ a b. refl) pairs_total pairs_exact c.self.inside.by_volume.entries c.insert.new.self.entries p v c.in_ok-insert.ensures.updates.0 in
     let wants = inserted {S = nat_cmp} (λ a b. refl) nat_cmp_total exact_unsigned c.self.inside.wanted.entries c.insert-2.new.self.entries c.args.waiter p c.in_ok-insert-2.ensures.updates.0 in
-    (λ i. (c.self.inside.ahead.items, (waits i, wants i)))
-    ∙ ap (λ (m : Remembered). (m.0, (finmap.insert m.1.0 p v, finmap.insert m.1.1 c.args.waiter p))) (c.self.view_is ∙ c.take_waiting-codes.ensures.left)
-    ∙ ap (λ x. (before.0, (x, finmap.insert before.1.1 c.args.waiter p)))
-    (put_back before.1.0 p v ∙ ap (finmap.insert before.1.0 p) (c.in_ok-push.ensures ∙ ap (λ xs. xs ++ c.args.waiter ∷ []) c.take_waiting-codes.ensures.codes))
+    (λ i. record { ahead = c.self.inside.ahead.items; waiting = waits i; wanted = wants i })
+    ∙ ap (λ (m : Remembered). record m { waiting = finmap.insert m.waiting p v; wanted = finmap.insert m.wanted c.args.waiter p }) (c.self.view_is ∙ c.take_waiting-codes.ensures.left)
+    ∙ ap (λ x. record before { waiting = x; wanted = finmap.insert before.wanted c.args.waiter p })
+    (put_back before.waiting p v ∙ ap (finmap.insert before.waiting p) (c.in_ok-push.ensures ∙ ap (λ xs. xs ++ c.args.waiter ∷ []) c.take_waiting-codes.ensures.codes))

@@ -9,6 +9,6 @@ use Rattle.gaz_hub.proofs.waiters.Waiters.want_nothing.Goals as goal
 
 pub returns : goal.returns
 returns c =
-    ap (λ x. (c.self.inside.ahead.items, (finmap.from_entries c.self.inside.by_volume.entries, x)))
+    ap (λ x. record { ahead = c.self.inside.ahead.items; waiting = finmap.from_entries c.self.inside.by_volume.entries; wanted = x })
     (taken_out nat_cmp_total exact_unsigned c.self.inside.wanted.entries c.remove.new.self.entries c.args.custodian c.remove.ensures.updates.0)
     ∙ ap (λ (m : Remembered). with_nothing_wanted m c.args.custodian) c.self.view_is

@@ -1,9 +1,9 @@
 use Rattle.std.proofs.Common.{[], ◌∷◌}
 use Rattle.std.specs.Prelude.{decimal}
+use Rattle.std.specs.Option.{unwrap_or}
 use Rattle.gaz_ids.specs.Codes.{status_text}
 use Rattle.gaz_records.specs.Blpus.{parent_text}
 use Rattle.gaz_records.specs.Days.{date_text, end_text}
-use Rattle.gaz_records.specs.Fields.{or_empty}
 use Rattle.gaz_records.proofs.Growing.{◌>>◌}
 use Rattle.gaz_records.proofs.Written.{more}
 use Rattle.gaz_records.proofs.blpu.Blpu.write_behind.Goals as goal
@@ -18,7 +18,7 @@ returns-clause-row c =
     let e = decimal x.easting in
     let n = decimal x.northing in
     let p = parent_text x.parent in
-    let c' = or_empty x.postcode in
+    let c' = unwrap_or x.postcode [] in
     let dates = date_text x.start ∷ end_text x.end ∷ [] in
     let two = more _ _ _ (s ∷ []) (e ∷ []) status easting in
     let three = more _ _ _ (s ∷ e ∷ []) (n ∷ []) two northing in

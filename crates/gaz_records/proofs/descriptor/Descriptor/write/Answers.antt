@@ -1,7 +1,7 @@
 use Rattle.std.proofs.Common.{[], ◌∷◌}
 use Rattle.std.specs.Prelude.{decimal}
+use Rattle.std.specs.Option.{unwrap_or}
 use Rattle.gaz_ids.specs.Codes.{lang_text}
-use Rattle.gaz_records.specs.Fields.{or_empty}
 use Rattle.gaz_records.proofs.Growing.{◌>>◌}
 use Rattle.gaz_records.proofs.Written.{more, row_is}
 use Rattle.gaz_records.proofs.descriptor.Descriptor.write.Goals as goal
@@ -14,11 +14,11 @@ returns-clause-row c =
     let description = rw c.as_bytes.ensures.value at c.in_ok-next_field-2.ensures.row in
     let area = rw c.as_bytes-2.ensures.value at c.in_ok-next_field-3.ensures.row in
     let two = more _ _ _ (lang_text x.lang ∷ []) (x.description ∷ []) lang description in
-    let three = more _ _ _ (lang_text x.lang ∷ x.description ∷ []) (or_empty x.locality ∷ []) two c.in_ok-next_text.ensures.row in
-    let four = more _ _ _ (lang_text x.lang ∷ x.description ∷ or_empty x.locality ∷ []) (or_empty x.town ∷ []) three c.in_ok-next_text-2.ensures.row in
-    let rest = lang_text x.lang ∷ x.description ∷ or_empty x.locality ∷ or_empty x.town ∷ [] in
+    let three = more _ _ _ (lang_text x.lang ∷ x.description ∷ []) (unwrap_or x.locality [] ∷ []) two c.in_ok-next_text.ensures.row in
+    let four = more _ _ _ (lang_text x.lang ∷ x.description ∷ unwrap_or x.locality [] ∷ []) (unwrap_or x.town [] ∷ []) three c.in_ok-next_text-2.ensures.row in
+    let rest = lang_text x.lang ∷ x.description ∷ unwrap_or x.locality [] ∷ unwrap_or x.town [] ∷ [] in
     let five = more _ _ _ rest (x.area ∷ []) four area in
-    rw (← c.self.view_is) (row_is c.args.out.now.items _ _ (decimal x.usrn) (lang_text x.lang ∷ x.description ∷ or_empty x.locality ∷ or_empty x.town ∷ x.area ∷ []) usrn five)
+    rw (← c.self.view_is) (row_is c.args.out.now.items _ _ (decimal x.usrn) (lang_text x.lang ∷ x.description ∷ unwrap_or x.locality [] ∷ unwrap_or x.town [] ∷ x.area ∷ []) usrn five)
 
 pub returns-in_err-next_field-clause-kept : goal.returns-in_err-next_field-clause-kept
 returns-in_err-next_field-clause-kept c = c.add_number.ensures.kept >> c.next_field.ensures.kept

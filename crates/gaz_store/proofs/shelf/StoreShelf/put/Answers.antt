@@ -1,13 +1,17 @@
-use Rattle.std.proofs.Common.{◌∙◌, sym}
 use Rattle.gaz_views.proofs.Lawful.{lawful_put}
 use Rattle.gaz_views.specs.View.{with_item}
-use Rattle.gaz_store.proofs.StoreCalls.{breaks, turns}
+use Rattle.gaz_store.proofs.StoreCalls.{breaks, passed_on, refused, turns}
 use Rattle.gaz_store.proofs.shelf.StoreShelf.put.Goals as goal
 
-pub returns-in-Ok-clause-sets : goal.returns-in-Ok-clause-sets
-returns-in-Ok-clause-sets g c =
-    turns g.R.OfRegister.text c.args.self.now c.in-Open.judgement c.put.new.self c.put.new.tables c.put.result (λ w. with_item w c.args.item) (sym c.replace.ensures.value ∙ c.in-Open.is)
-    c.put.ensures.code (λ w lawful. lawful_put w c.args.item c.requires.entry lawful) c.put.ensures.asks c.in-Ok.is
+pub returns-clause-sets : goal.returns-clause-sets
+returns-clause-sets g c =
+    turns g.R.OfRegister.text c.args.self.now c.in-Some.judgement c.put.new.self c.put.new.tables c.put.result (λ w. with_item w c.args.item) c.in-Some.ensures.open
+    c.put.ensures.code (λ w lawful. lawful_put w c.args.item c.requires.entry lawful) c.put.ensures.asks c.in_ok-put.was
 
-pub returns-in-Err-clause-sets : goal.returns-in-Err-clause-sets
-returns-in-Err-clause-sets g c = breaks g.R.OfRegister.text c.args.self.now c.put.new.tables _ c.replace.ensures.after c.put.result c.in-Err.fault _ _ _ c.put.ensures.asks c.in-Err.is
+pub returns-in_err-put-clause-sets : goal.returns-in_err-put-clause-sets
+returns-in_err-put-clause-sets g c =
+    breaks g.R.OfRegister.text c.args.self.now c.put.new.tables _ c.take_open.ensures.broken c.put.result c.in_err-put.field-0.0 c.from_residual.result _ _ _ c.put.ensures.asks c.in_err-put.was
+    (passed_on c.from_residual.result c.in_err-put.field-0.0 c.from_residual.ensures.1)
+
+pub returns-in_default-clause-sets : goal.returns-in_default-clause-sets
+returns-in_default-clause-sets g c = refused g.R.OfRegister.text c.args.self.now c.fail.new.self _ c.take_open.ensures.broken c.fail.result c.fail.ensures.fails _ _ _

@@ -44,7 +44,7 @@ returns-in-Ok-clause-opened g c none =
     let was = state g.S.Store c.args.conn in
     let text = register_text c.args.register.now in
     let whole = subst (λ h. Untouched g.S.Store c.args.conn h) (sym c.over.ensures.conn) (c.in-Ok.ensures.untouched none) in
-    is_opened (state g.S.Store c.over.result.conn) c.over.result.at_hand c.over.ensures.so was text c.over.result.failures c.over.ensures.failures
+    is_opened (state g.S.Store c.over.result.tables.conn) c.over.result.tables.at_hand c.over.ensures.so c.over.result.judging c.over.ensures.idle was text c.over.result.tables.failures c.over.ensures.failures
     (λ clean. let s = whole.leaves in let le = s.clean in omega (arith, le, clean))
     whole.rests
     (subst (λ h. HasCleanDisk (state g.S.Store h) → IsKept was.now → IsOf text (rows_of was.now meta)) (sym c.over.ensures.conn) (λ clean kept. c.in-Ok.ensures.judged clean kept.tables))
@@ -55,7 +55,7 @@ returns-in-Ok-clause-moved g c =
     let was = state g.S.Store c.args.conn in
     let text = register_text c.args.register.now in
     let before = clean_before was (state g.S.Store c.migrate.new.conn) _ _ c.in-Ok.ensures.leaves in
-    is_moved (state g.S.Store c.over.result.conn) c.over.result.at_hand c.over.ensures.so was text c.over.result.failures c.over.ensures.failures
+    is_moved (state g.S.Store c.over.result.tables.conn) c.over.result.tables.at_hand c.over.ensures.so c.over.result.judging c.over.ensures.idle was text c.over.result.tables.failures c.over.ensures.failures
     (subst (λ h. HasCleanDisk (state g.S.Store h) → HasCleanDisk was) (sym c.over.ensures.conn) before)
     (subst (λ h. Moves g.S.Store c.args.conn h (Ok tt) text) (sym c.over.ensures.conn) c.in-Ok.ensures.moved)
     (subst (λ h. HasCleanDisk (state g.S.Store h) → HasFirstTables was.now → IsOfFirst text (rows_of was.now meta)) (sym c.over.ensures.conn) (λ clean has. c.in-Ok.ensures.judged_first clean has))

@@ -11,7 +11,7 @@ use Rattle.gaz_store.proofs.store.Store.open.Goals as goal
 
 pub returns-in-Ok-clause-opened : goal.returns-in-Ok-clause-opened
 returns-in-Ok-clause-opened g c =
-    is_opened (state g.S.Store c.over.result.conn) c.over.result.at_hand c.over.ensures.so (state g.S.Store c.args.conn) (register_text c.args.register.now) c.over.result.failures c.over.ensures.failures
+    is_opened (state g.S.Store c.over.result.tables.conn) c.over.result.tables.at_hand c.over.ensures.so c.over.result.judging c.over.ensures.idle (state g.S.Store c.args.conn) (register_text c.args.register.now) c.over.result.tables.failures c.over.ensures.failures
     (subst (λ h. HasCleanDisk (state g.S.Store h) → HasCleanDisk (state g.S.Store c.args.conn)) (sym c.over.ensures.conn) (λ clean. let s = c.in-Ok.ensures.leaves in let le = s.clean in omega (arith, le, clean)))
     (subst (λ h. HasCleanDisk (state g.S.Store h) → Rests (state g.S.Store c.args.conn) (state g.S.Store h)) (sym c.over.ensures.conn) c.in-Ok.ensures.rests)
     (subst (λ h. HasCleanDisk (state g.S.Store h) → IsKept (state g.S.Store c.args.conn).now → IsOf (register_text c.args.register.now) (rows_of (state g.S.Store c.args.conn).now meta)) (sym c.over.ensures.conn)

@@ -1,9 +1,10 @@
 use Rattle.std.proofs.Common.{◌+◌, ◌-◌, ◌/◌, arith}
-use Rattle.gaz_store.proofs.Halving.{at_first, is_beyond, is_reached, not_told}
+use Rattle.gaz_store.proofs.Answered.{asked_fault}
+use Rattle.gaz_store.proofs.Halving.{bounded, is_beyond, is_reached}
 use Rattle.gaz_store.proofs.tables.Tables.count_judged.Goals as goal
 
 pub loop-reached-init : goal.loop-reached-init
-loop-reached-init g c = record { asks = at_first c.args.self.now c.args.code; order = omega arith; last = omega arith }
+loop-reached-init g c = record { asks = bounded _ _ c.args.code c.bounds.result c.in_ok-bounds.bounds c.bounds.ensures.asks c.in_ok-bounds.was; order = c.in_ok-bounds.ensures.order.0; last = c.in_ok-bounds.ensures.order.1 }
 
 pub loop-reached-preserved-in-Ok-true : goal.loop-reached-preserved-in-Ok-true
 loop-reached-preserved-in-Ok-true g c = record {
@@ -21,7 +22,5 @@ loop-reached-preserved g c = record {
   last = omega arith;
 }
 
-pub returns-in-Err-clause-asks : goal.returns-in-Err-clause-asks
-returns-in-Err-clause-asks g c =
-    not_told _ _ _ c.args.code c.loop-reached.reached c.loop-reached.beyond (c.loop-reached.reached + (c.loop-reached.beyond - c.loop-reached.reached) / 2)
-    c.is_judged.result c.loop-reached.invariant.asks c.is_judged.ensures c.in-Err.fault _ c.in-Err.is
+pub returns-in-Err : goal.returns-in-Err
+returns-in-Err g c = asked_fault _ _ _ _ c.is_judged.result c.in-Err.fault _ _ _ c.loop-reached.invariant.asks c.is_judged.ensures c.in-Err.is

@@ -1,4 +1,10 @@
-use Rattle.std.proofs.Common.{◌∙◌, refl}
+use Rattle.std.proofs.Common.{◌≡◌, ◌∙◌}
+use Rattle.std.specs.Prelude.{None}
+use Rattle.gaz_tables.specs.Schema.{received}
+use Rattle.gaz_tables.specs.Tables.{rows_of}
+use Rattle.gaz_kept.specs.Files.{reached_in}
+use Rattle.gaz_store.specs.Remembered.{IsSo}
+use Rattle.gaz_store.specs.declared.at_hand.AtHand.{AtHand}
 use Rattle.gaz_store.proofs.Composing.{faulted}
 use Rattle.gaz_store.proofs.Recalling.{at_hand_already, recalls_asked, recalls_noting}
 use Rattle.gaz_store.proofs.tables.Tables.counts.Goals as goal
@@ -8,7 +14,10 @@ returns-in-Some g c = at_hand_already c.args.self.now c.args.code c.in-Some.at_h
 
 pub returns-in-Ok : goal.returns-in-Ok
 returns-in-Ok g c =
-    recalls_noting _ _ _ c.count.result c.args.code c.in-Ok.counted c.insert.result c.count.ensures c.in-Ok.is refl refl c.insert.ensures.updates c.insert.ensures.err
+    let h : AtHand = record { reached = c.in-Ok.reached; held = None } in
+    recalls_noting _ _ _ c.count_judged.result c.in-Ok.reached c.args.code h h (λ db n. n ≡ reached_in (rows_of db received) c.args.code) (λ db x. IsSo (rows_of db received) c.args.code x)
+    (recalls_asked _ _ _ _ c.count_judged.ensures) c.in-Ok.is (λ db kept is. let so : IsSo (rows_of db received) c.args.code h = record { reached = is; held = tt } in (so, so))
+    c.note.ensures.conn c.note.ensures.failures c.note.ensures.own c.note.ensures.others
 
 pub returns-in-Err : goal.returns-in-Err
-returns-in-Err g c = recalls_asked _ _ _ _ (faulted _ _ c.count.result c.in-Err.fault _ _ c.count.ensures c.in-Err.is)
+returns-in-Err g c = recalls_asked _ _ _ _ (faulted _ _ c.count_judged.result c.in-Err.fault _ _ c.count_judged.ensures c.in-Err.is)

@@ -7,9 +7,9 @@ use Rattle.gaz_store.proofs.Composing.{answered}
 use Rattle.gaz_store.proofs.Verdicts.{verdict_told}
 use Rattle.gaz_store.proofs.tables.Tables.verdict.Goals as goal
 
-pub returns-in-Some : goal.returns-in-Some
-returns-in-Some g c =
+pub returns-in-Ok : goal.returns-in-Ok
+returns-in-Ok g c =
     answered _ _ _ _ _ _ c.verdict_rows.ensures (λ db kept found.
     verdict_told c.args.code c.args.volume db c.in_ok-rows.rows.items kept
     (subst (λ r. IfOk r (λ rows. FindsVerdict c.args.code c.args.volume (rows_of db received) rows.items)) c.in_ok-rows.was found)
-    c.in-Some.verdict (subst (λ rows. SaysVerdict rows c.in-Some.verdict) c.deref.ensures.value c.in-Some.ensures))
+    c.in-Ok.verdict (subst (λ rows. SaysVerdict rows c.in-Ok.verdict) c.deref.ensures.value c.in-Ok.ensures))

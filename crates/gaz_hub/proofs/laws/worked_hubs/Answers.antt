@@ -1,5 +1,0 @@
-use Rattle.gaz_hub.proofs.WorkedHubs.{worked_hubs_hold}
-use Rattle.gaz_hub.proofs.laws.worked_hubs.Goals as goal
-
-pub returns : goal.returns
-returns c = worked_hubs_hold
