@@ -1,5 +1,5 @@
 -- Worked examples of addressable objects, computed from the definitions.
-use Rattle.std.specs.Prelude.{◌≡◌, ℕ, [], Option, Some, None, Ok, Err, codes}
+use Rattle.std.specs.Prelude.{◌≡◌, ℕ, [], ◌∷◌, Option, Some, None, Ok, Err, codes}
 use Rattle.gaz_addressable.specs.HouseNumbers.{HouseNumberValue}
 use Rattle.gaz_addressable.specs.Objects.{ObjectValue, object_of}
 use Rattle.gaz_addressable.specs.declared.object.ObjFault.TheVariants as fault
@@ -23,3 +23,6 @@ pub record WorkedObjects : Type 0 where
   pub suffix_alone : object_of [] (codes "A") [] [] [] ≡ Err fault.BadSuffix
   pub end_alone : object_of [] [] (codes "14") [] [] ≡ Err fault.EndWithoutStart
   pub up_to_itself : object_of (codes "12") [] (codes "12") [] [] ≡ Err fault.EndNotAfterStart
+  pub name_alone : object_of [] [] [] [] (codes "The Mill")
+      ≡ Ok (record { range = None; text = Some (codes "The Mill") })
+  pub line_break : object_of [] [] [] [] (84 ∷ 10 ∷ 121 ∷ []) ≡ Err fault.BadText

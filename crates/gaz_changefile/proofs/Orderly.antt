@@ -9,6 +9,7 @@ use Rattle.std.proofs.lemmas.Bool.Decides.{nat_tests}
 use Rattle.std.proofs.lemmas.List.{append-nil, get_or_append_left, map-append}
 use Rattle.std.proofs.lemmas.List.Elements.{All-append}
 use Rattle.std.proofs.lemmas.Slice.Eq.{bytes_eq-Decides}
+use Rattle.gaz_ids.specs.Numbers.{read_code, read_volume}
 use Rattle.gaz_rows.specs.Rows.{Fields, rows_of}
 use Rattle.gaz_records.proofs.Both.{and-left}
 use Rattle.gaz_records.specs.Items.{read_item}
@@ -19,7 +20,7 @@ use Rattle.gaz_changefile.specs.Allowed.{AreAllowed, is_allowed}
 use Rattle.gaz_changefile.specs.Contents.{Contents, bases_in, basis_in, basis_of, change_from, change_of, changes_in, contents_of}
 use Rattle.gaz_changefile.specs.Files.{AreBases, ArePlaced}
 use Rattle.gaz_changefile.specs.Laws.{AreKept, BasesRise, ChangesAreAllowed, ChangesArePlaced, IsGood}
-use Rattle.gaz_changefile.specs.Lines.{action_of, field, is_basis, is_basis_line, is_change, is_change_line, is_trailer, is_trailer_line, is_value, line_of, profile_named, read_code, read_order, read_volume}
+use Rattle.gaz_changefile.specs.Lines.{action_of, field, is_basis, is_basis_line, is_change, is_change_line, is_trailer, is_trailer_line, is_value, line_of, profile_named, read_order}
 use Rattle.gaz_changefile.specs.Reading.{Good, reading}
 use Rattle.gaz_changefile.specs.Rules.{basis_rules, before_of, change_rules, custodian_at, first_broken, header_rules, is_above, is_allowed_if_read, is_header, is_miscounted, is_next_basis, later_rules, line_rules, rules_at}
 use Rattle.gaz_changefile.specs.declared.action.Action.{Action}

@@ -6,6 +6,7 @@ use Rattle.std.proofs.lemmas.Bool.Decides.{nat_tests}
 use Rattle.csv.specs.Records.{field_at}
 use Rattle.gaz_ids.specs.Limits.{last_volume}
 use Rattle.gaz_ids.proofs.Numerals.{read_decimal}
+use Rattle.gaz_ids.specs.Numbers.{read_code, read_volume}
 use Rattle.gaz_rows.specs.Rows.{Fields}
 use Rattle.gaz_records.specs.Days.{CivilDay}
 use Rattle.gaz_records.specs.Items.{is_entry, is_item, item_texts, kind_of, read_item}
@@ -17,7 +18,7 @@ use Rattle.gaz_records.specs.Kinds.{identifier, is_entry_kind}
 use Rattle.gaz_changefile.specs.Allowed.{AreAllowed, is_allowed}
 use Rattle.gaz_changefile.specs.Contents.{basis_at, basis_in, change_at, change_of}
 use Rattle.gaz_changefile.specs.Files.{IsBasis}
-use Rattle.gaz_changefile.specs.Lines.{action_of, has_kind, is_known_profile, line_of, read_code, read_count, read_order, read_profile, read_volume}
+use Rattle.gaz_changefile.specs.Lines.{action_of, has_kind, is_known_profile, line_of, read_count, read_order, read_profile}
 use Rattle.gaz_changefile.specs.Writing.{action_text, basis_row, change_row, header_row, trailer_row}
 use Rattle.gaz_changefile.specs.declared.action.Action.{Action}
 use Rattle.gaz_changefile.specs.declared.action.Action.TheVariants.{Insert, Update, Delete}

@@ -4,6 +4,7 @@ use Rattle.std.specs.Prelude.{◌==◌, drop, if◌then◌else◌, length}
 use Rattle.std.specs.List.{All, cons_option, enumerate_from, filter_map}
 use Rattle.std.proofs.lemmas.Bool.Decides.{nat_tests}
 use Rattle.std.proofs.lemmas.List.Elements.{All-cons, All-nil}
+use Rattle.gaz_ids.specs.Numbers.{read_code, read_volume}
 use Rattle.gaz_rows.specs.Rows.{Fields, rows_of}
 use Rattle.gaz_records.specs.Days.{date_of, is_day}
 use Rattle.gaz_records.specs.Items.{is_item, read_item}
@@ -16,7 +17,7 @@ use Rattle.gaz_records.proofs.ReadItems.{reads_items}
 use Rattle.gaz_changefile.specs.Contents.{basis_at, basis_from, basis_of, bases_in, change_at, change_from, change_of, changes_in, contents_of, date_in}
 use Rattle.gaz_changefile.specs.Files.{IsBasis, IsTyped}
 use Rattle.gaz_changefile.specs.Laws.{AreKept, ReadingsAreTyped}
-use Rattle.gaz_changefile.specs.Lines.{action_of, field, line_of, profile_named, read_code, read_volume}
+use Rattle.gaz_changefile.specs.Lines.{action_of, field, line_of, profile_named}
 use Rattle.gaz_changefile.specs.Rules.{header_rules, is_header, rules_at}
 use Rattle.gaz_changefile.specs.declared.action.Action.{Action}
 use Rattle.gaz_changefile.specs.declared.change.Basis.{Basis}

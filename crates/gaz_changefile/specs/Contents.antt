@@ -3,14 +3,14 @@ use Rattle.std.specs.Prelude.{ℕ, ◌==◌, List, [], ◌∷◌, drop, length, 
 use Rattle.std.specs.Prelude.{Err, if◌then◌else◌}
 use Rattle.std.specs.Option.{unwrap_or}
 use Rattle.std.specs.List.{enumerate_from, filter_map}
+use Rattle.gaz_ids.specs.Numbers.{read_code, read_volume}
 use Rattle.gaz_rows.specs.Rows.{Fields}
 use Rattle.gaz_records.specs.Days.{CivilDay, date_of, no_day}
 use Rattle.gaz_records.specs.Items.{read_item}
 use Rattle.gaz_records.specs.declared.fields.FieldFault.{FieldFault}
 use Rattle.gaz_records.specs.declared.item.Item.{Item}
 use Rattle.gaz_records.specs.declared.item.Kind.{Kind}
-use Rattle.gaz_changefile.specs.Lines.{action_of, field, line_of, profile_named, read_code}
-use Rattle.gaz_changefile.specs.Lines.{read_volume}
+use Rattle.gaz_changefile.specs.Lines.{action_of, field, line_of, profile_named}
 use Rattle.gaz_changefile.specs.declared.action.Action.{Action}
 use Rattle.gaz_changefile.specs.declared.change.Basis.{Basis}
 use Rattle.gaz_changefile.specs.declared.change.Change.{Change}

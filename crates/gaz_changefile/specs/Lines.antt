@@ -4,7 +4,7 @@ use Rattle.std.specs.Prelude.{Bool, true, false, codes}
 use Rattle.std.specs.Option.{unwrap_or}
 use Rattle.std.specs.Result.{result_ok}
 use Rattle.std.specs.Str.{bytes_eq}
-use Rattle.gaz_ids.specs.Limits.{last_volume, most_changes}
+use Rattle.gaz_ids.specs.Limits.{most_changes}
 use Rattle.gaz_ids.specs.Numbers.{read_id}
 use Rattle.gaz_rows.specs.Rows.{Fields}
 use Rattle.gaz_records.specs.Fields as Records
@@ -27,12 +27,6 @@ is_known_profile profile = (profile == 1) || (profile == 2)
 -- the numbers of a file: digits up to a width, in a range
 abbrev pub read_profile : List ℕ → Option ℕ
 read_profile text = result_ok (read_id 4 1 9999 text)
-
-abbrev pub read_code : List ℕ → Option ℕ
-read_code text = result_ok (read_id 4 1 9999 text)
-
-abbrev pub read_volume : List ℕ → Option ℕ
-read_volume text = result_ok (read_id 6 1 last_volume text)
 
 abbrev pub read_order : List ℕ → Option ℕ
 read_order text = result_ok (read_id 4 1 most_changes text)

@@ -7,6 +7,7 @@ use Rattle.std.specs.Prelude.{false, count_by, codes, Result, Ok, Err}
 use Rattle.std.specs.List.{last_or, list_any}
 use Rattle.std.specs.Str.{bytes_eq}
 use Rattle.gaz_ids.specs.Limits.{most_bases, most_changes}
+use Rattle.gaz_ids.specs.Numbers.{read_code, read_volume}
 use Rattle.gaz_rows.specs.Rows.{Fields}
 use Rattle.gaz_records.specs.Days.{date_of}
 use Rattle.gaz_records.specs.Items.{read_item}
@@ -17,8 +18,8 @@ use Rattle.gaz_records.specs.declared.item.Kind.{Kind}
 use Rattle.gaz_changefile.specs.Allowed.{may_name, named_in}
 use Rattle.gaz_changefile.specs.Contents.{basis_at, basis_in}
 use Rattle.gaz_changefile.specs.Lines.{action_of, field, is_basis, is_change, is_known, is_trailer}
-use Rattle.gaz_changefile.specs.Lines.{is_value, line_of, profile_named, read_code, read_count}
-use Rattle.gaz_changefile.specs.Lines.{read_order, read_profile, read_volume}
+use Rattle.gaz_changefile.specs.Lines.{is_value, line_of, profile_named, read_count}
+use Rattle.gaz_changefile.specs.Lines.{read_order, read_profile}
 use Rattle.gaz_changefile.specs.declared.action.Action.{Action}
 use Rattle.gaz_changefile.specs.declared.change.Basis.{Basis}
 use Rattle.gaz_changefile.specs.declared.line.Line.{Line}

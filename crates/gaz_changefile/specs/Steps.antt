@@ -37,7 +37,8 @@ pub record Adds (old new : FileDraft) (place : ℕ) (row : Fields) : Type 0 wher
   pub kept : first_broken (later_rules old.own (before_in old) (Some row)) ≡ None
   pub open_before : old.ended ≡ false
   pub bases : new.bases.items ≡ old.bases.items ++ option_to_list (basis_at old.profile row)
-  pub changes : new.changes.items ≡ old.changes.items ++ option_to_list (change_at old.profile (place, row))
+  pub changes : new.changes.items
+      ≡ old.changes.items ++ option_to_list (change_at old.profile (place, row))
   pub base_count :
       length new.bases.items ≡ length old.bases.items + cond (is_basis old.profile row) 1 0
   pub count :

@@ -1,9 +1,7 @@
 -- What the words of a command ask of the hub, or what is said at once: numbers are looked at in the
 -- order in which they stand, and before the change file.
 use Rattle.std.specs.Prelude.{ℕ, List, Option, Some, None, Result, Ok, Err}
-use Rattle.std.specs.Result.{result_ok}
-use Rattle.gaz_ids.specs.Limits.{last_uprn, last_volume}
-use Rattle.gaz_ids.specs.Numbers.{read_id}
+use Rattle.gaz_ids.specs.Numbers.{read_code, read_uprn, read_volume}
 use Rattle.gaz_hub.specs.Step.{Command, Pose, Submit}
 use Rattle.gaz_hub.specs.declared.question.Question.TheVariants.{Extract, LookUp, Stand}
 use Rattle.gaz_commands.specs.Saying.{turned_away}
@@ -13,18 +11,6 @@ use Rattle.gaz_commands.specs.declared.said.CommandFault.TheVariants as fault
 use Rattle.gaz_commands.specs.declared.said.Said.{Said}
 use Rattle.gaz_commands.specs.declared.said.Said.TheVariants as said
 
--- the code that the digits write
-abbrev pub code_named : List ℕ → Option ℕ
-code_named word = result_ok (read_id 4 1 9999 word)
-
--- the volume that the digits write
-abbrev pub volume_named : List ℕ → Option ℕ
-volume_named word = result_ok (read_id 6 1 last_volume word)
-
--- the UPRN that the digits write
-abbrev pub uprn_named : List ℕ → Option ℕ
-uprn_named word = result_ok (read_id 12 1 last_uprn word)
-
 -- a submission of a file; its bytes are given where it could be read
 abbrev pub submission : Option ℕ → Option ℕ → Option (List ℕ) → Result Command Said
 submission None volume file = Err (turned_away door.UnknownCustodian)
@@ -33,7 +19,7 @@ submission (Some c) (Some volume) None = Err (said.Failed fault.Unreadable)
 submission (Some c) (Some volume) (Some bytes) = Ok (Submit c volume bytes)
 
 abbrev pub asks_to_submit : List ℕ → List ℕ → Option (List ℕ) → Result Command Said
-asks_to_submit code volume file = submission (code_named code) (volume_named volume) file
+asks_to_submit code volume file = submission (read_code code) (read_volume volume) file
 
 -- how far a custodian's files are judged
 abbrev pub standing_of : Option ℕ → Result Command Said
@@ -41,7 +27,7 @@ standing_of None = Err (turned_away door.UnknownCustodian)
 standing_of (Some c) = Ok (Pose (Stand c))
 
 abbrev pub asks_standing : List ℕ → Result Command Said
-asks_standing code = standing_of (code_named code)
+asks_standing code = standing_of (read_code code)
 
 -- how a property is addressed; a number that doesn't read is that of no property
 abbrev pub address_of : Option ℕ → Result Command Said
@@ -49,7 +35,7 @@ address_of None = Err (said.Line line.Nothing)
 address_of (Some uprn) = Ok (Pose (LookUp uprn))
 
 abbrev pub asks_address : List ℕ → Result Command Said
-asks_address uprn = address_of (uprn_named uprn)
+asks_address uprn = address_of (read_uprn uprn)
 
 -- a custodian's view after a volume
 abbrev pub extract_of : Option ℕ → Option ℕ → Result Command Said
@@ -58,4 +44,4 @@ extract_of (Some c) None = Err (turned_away door.BadVolume)
 extract_of (Some c) (Some volume) = Ok (Pose (Extract c volume))
 
 abbrev pub asks_extract : List ℕ → List ℕ → Result Command Said
-asks_extract code volume = extract_of (code_named code) (volume_named volume)
+asks_extract code volume = extract_of (read_code code) (read_volume volume)

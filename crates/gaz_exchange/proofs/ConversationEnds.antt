@@ -10,7 +10,8 @@ use Rattle.gaz_hub.specs.Step.{Command, Door, Response}
 use Rattle.gaz_hub.proofs.Answers.{every_answer_holds}
 use Rattle.gaz_exchange.specs.declared.conversation.Served.{Served}
 use Rattle.gaz_exchange.specs.declared.conversation.Stopped.{Stopped}
-use Rattle.gaz_exchange.specs.Conversing.{AnswersAll, ComesTo, CountedConversation, EndsAs, EndsByReply, FinishesAs, Passed, SomeAnswered, ended_after, replied}
+use Rattle.gaz_exchange.specs.Conversing.{CountedConversation, SomeAnswered, replied}
+use Rattle.gaz_exchange.specs.Ends.{AnswersAll, ComesTo, EndsAs, EndsByReply, FinishesAs, Passed, ended_after}
 use Rattle.gaz_exchange.specs.Exchanges.{Exchange}
 use Rattle.gaz_exchange.specs.declared.supply.Cause.TheVariants.{WriteFault}
 use Rattle.gaz_exchange.specs.declared.conversation.Ended.{Ended}

@@ -9,7 +9,7 @@ use Rattle.gaz_keeper.specs.Keeper.{Seen}
 use Rattle.gaz_hub.specs.Hubs.{Runs}
 use Rattle.gaz_hub.specs.Step.{Door}
 use Rattle.gaz_hub.proofs.HubRuns.{runs_none, runs_still, runs_then}
-use Rattle.gaz_exchange.specs.Conversing.{EndsAs, EndsByReply, StopsAs, StopsWaiting, ended_after}
+use Rattle.gaz_exchange.specs.Ends.{EndsAs, EndsByReply, StopsAs, StopsWaiting, ended_after}
 use Rattle.gaz_exchange.specs.Exchanges.{Comes, Exchange, all_open, command_in, commands_of, ends_after, goes_on, replies, responses_of}
 use Rattle.gaz_exchange.specs.Framing.{is_closing}
 use Rattle.gaz_exchange.specs.Sparing.{OneForEach, OneForEachUsed}
@@ -17,12 +17,14 @@ use Rattle.gaz_exchange.specs.Turns.{Exchanges, IsTurn, Rests, TurnsAway, Waits}
 use Rattle.gaz_exchange.specs.declared.supply.Cause.{Cause}
 use Rattle.gaz_exchange.specs.declared.supply.Cause.TheVariants.{ReadFault, WriteFault}
 use Rattle.gaz_exchange.specs.declared.conversation.Ended.TheVariants as ended
+use Rattle.gaz_exchange.specs.declared.conversation.Turn.{Turn}
 use Rattle.gaz_exchange.specs.declared.conversation.Turn.TheVariants.{Answered, Closed, Over}
 use Rattle.gaz_exchange.specs.declared.conversation.Turn.TheVariants as turn
 use Rattle.gaz_exchange.proofs.EndLaws.{ends_all}
 use Rattle.gaz_exchange.proofs.RoutesKept.{AreFoundBy, found_by_more, found_by_none}
 use Rattle.gaz_exchange.proofs.ExchangeFacts.{both, both_are, comes_more, comes_none, comes_read, goes_on-more, replies-more}
 use Rattle.gaz_exchange.proofs.ConversationEnds.{Converses, answers_off, ends_by, ever_off, passed_in}
+use Rattle.gaz_exchange.proofs.TurnFacts.{passing, standing}
 
 module _ (d : Door) where
   -- n requests were answered, and none of them ends the conversation
@@ -54,6 +56,10 @@ module _ (d : Door) where
 
   module _ (most n : ℕ) (was routed : Bool) (begun reads reads_then : ℕ) (had left later held holds after : Option (List ℕ)) (old mid new : Seen) (inlet rest : List ℕ)
       (s : IsSoFar most n was begun reads had left held holds old mid inlet) (below : n < most) where
+    -- the next turn
+    abbrev TurnsTo : Turn → Type 0
+    TurnsTo turn = IsTurn d ((n + 1) == most) (passing left later holds after) (standing was reads inlet mid) (standing routed reads_then rest new) turn
+
     counted_used : (read : List ℕ) → OneForEachUsed reads reads_then (inlet ++ read) rest → OneForEachUsed begun reads_then (s.read ++ read) rest
     counted_used read one = omega (arith, s.counted, one, length-append inlet read, length-append s.read read)
 
@@ -124,7 +130,7 @@ module _ (d : Door) where
         let all = Appends-trans held holds after (replies s.exchanges) written s.appended a in
         rw (e, append-nil (replies s.exchanges)) at all
 
-    pub so_far_more : IsTurn d ((n + 1) == most) was routed reads reads_then inlet rest left later holds after mid new Answered → IsSoFar most (n + 1) routed begun reads_then had later held after old new rest
+    pub so_far_more : TurnsTo Answered → IsSoFar most (n + 1) routed begun reads_then had later held after old new rest
     so_far_more t =
         let (e, x, told, goes, counted) = t.out in
         let others : goes_on most (s.exchanges ++ e ∷ []) ≡ true = ends_or_not t.read e t.consumed x t.stay ∙ ap not goes in
@@ -141,7 +147,7 @@ module _ (d : Door) where
           counted = counted_used t.read counted;
         }
 
-    closed_by_reply : (t : IsTurn d ((n + 1) == most) was routed reads reads_then inlet rest left later holds after mid new Closed) (e : Exchange) → Exchanges d ((n + 1) == most) routed (inlet ++ t.read) e rest mid new
+    closed_by_reply : (t : TurnsTo Closed) (e : Exchange) → Exchanges d ((n + 1) == most) routed (inlet ++ t.read) e rest mid new
         → t.written ≡ e.reply → (is_closing e.head || ((n + 1) == most)) ≡ true → OneForEachUsed reads reads_then (inlet ++ t.read) rest
         → Converses d most begun reads_then had later held after old new (Ok (record { requests = n + 1; ended = ended_after (n + 1) most }))
     closed_by_reply t e x told ends counted =
@@ -171,7 +177,7 @@ module _ (d : Door) where
           none_behind = λ last. counted_used t.read counted;
         }
 
-    closed_by_refusal : (t : IsTurn d ((n + 1) == most) was routed reads reads_then inlet rest left later holds after mid new Closed) → TurnsAway d reads reads_then (inlet ++ t.read) later mid new t.written
+    closed_by_refusal : (t : TurnsTo Closed) → TurnsAway d reads reads_then (inlet ++ t.read) later mid new t.written
         → Converses d most begun reads_then had later held after old new (Ok (record { requests = n + 1; ended = ended_after (n + 1) most }))
     closed_by_refusal t (away, rests, counted) =
         let passed = passed_in s.exchanges (inlet ++ t.read) later (replies s.exchanges ++ t.written) in
@@ -202,11 +208,11 @@ module _ (d : Door) where
           none_behind = λ last. not_last (n + 1) (omega arith) last;
         }
 
-    pub ends_closed : IsTurn d ((n + 1) == most) was routed reads reads_then inlet rest left later holds after mid new Closed
+    pub ends_closed : TurnsTo Closed
         → Converses d most begun reads_then had later held after old new (Ok (record { requests = n + 1; ended = ended_after (n + 1) most }))
     ends_closed t = elim t.out [ inl w ↦ closed_by_reply t w.0 w.1 w.2 w.3 w.4 | inr w ↦ closed_by_refusal t w ]
 
-    pub ends_over : IsTurn d ((n + 1) == most) was routed reads reads_then inlet rest left later holds after mid new Over
+    pub ends_over : TurnsTo Over
         → Converses d most begun reads_then had later held after old new (Ok (record { requests = n; ended = ended.InputEnd }))
     ends_over t =
         let (over, at_end, rests, none, counted) = t.out in
@@ -232,7 +238,7 @@ module _ (d : Door) where
           none_behind = λ last. not_last n (omega arith) last;
         }
 
-    stops_answering : (t : IsTurn d ((n + 1) == most) was routed reads reads_then inlet rest left later holds after mid new (turn.Stopped WriteFault)) (lost : List ℕ) (part : lost ≢ []) (e : Exchange)
+    stops_answering : (t : TurnsTo (turn.Stopped WriteFault)) (lost : List ℕ) (part : lost ≢ []) (e : Exchange)
         → Exchanges d ((n + 1) == most) routed (inlet ++ t.read) e rest mid new → e.reply ≡ t.written ++ lost → OneForEachUsed reads reads_then (inlet ++ t.read) rest
         → Converses d most begun reads_then had later held after old new (Err (record { requests = n; cause = WriteFault }))
     stops_answering t lost part e x cut counted = record {
@@ -255,7 +261,7 @@ module _ (d : Door) where
       none_behind = λ last. counted_used t.read counted;
     }
 
-    stops_refusing : (t : IsTurn d ((n + 1) == most) was routed reads reads_then inlet rest left later holds after mid new (turn.Stopped WriteFault)) (lost : List ℕ) (part : lost ≢ [])
+    stops_refusing : (t : TurnsTo (turn.Stopped WriteFault)) (lost : List ℕ) (part : lost ≢ [])
         → TurnsAway d reads reads_then (inlet ++ t.read) later mid new (t.written ++ lost)
         → Converses d most begun reads_then had later held after old new (Err (record { requests = n; cause = WriteFault }))
     stops_refusing t lost part (away, rests, counted) = record {
@@ -306,7 +312,7 @@ module _ (d : Door) where
         none_behind = λ last. not_last n (omega arith) last;
       }
 
-    pub stops : (cause : Cause) → IsTurn d ((n + 1) == most) was routed reads reads_then inlet rest left later holds after mid new (turn.Stopped cause)
+    pub stops : (cause : Cause) → TurnsTo (turn.Stopped cause)
         → Converses d most begun reads_then had later held after old new (Err (record { requests = n; cause = cause }))
     stops ReadFault t = stops_waiting t.read t.written t.consumed t.appended ReadFault t.out (waiting t.read t.written t.consumed t.appended ReadFault t.out)
     stops WriteFault t =

@@ -3,7 +3,7 @@ use Rattle.std.proofs.Common.{◌≡◌, ℕ, ◌<◌, Bool, true, false, List, 
 use Rattle.std.specs.Prelude.{◌&&◌}
 use Rattle.httparse.specs.Grammar.{RequestHead, print_blank, print_request}
 use Rattle.httparse.proofs.GrammarLemmas.{print_request-append, request_unique}
-use Rattle.gaz_exchange.specs.Conversing.{EndsAs, EndsByReply, Passed}
+use Rattle.gaz_exchange.specs.Ends.{EndsAs, EndsByReply, Passed}
 use Rattle.gaz_exchange.specs.Framing.{length_of}
 use Rattle.gaz_exchange.specs.Heads.{IsOver, is_blank, is_line_byte}
 use Rattle.gaz_exchange.specs.Refusals.{HasBadLength, HasHead, IsRefused, no_head, cut_head, bad_length, cut_body, no_memory}

@@ -1,7 +1,8 @@
 -- What failed.
 use Rattle.std.proofs.Common.{◌≡◌, Bool, true, false, Ok, Err, refl}
 use Rattle.std.specs.Prelude.{ℕ, Result, OnErr}
-use Rattle.gaz_exchange.specs.Conversing.{FinishesAs, NeverStops, StopsByFault}
+use Rattle.gaz_exchange.specs.Conversing.{NeverStops, StopsByFault}
+use Rattle.gaz_exchange.specs.Ends.{FinishesAs}
 use Rattle.gaz_exchange.specs.Failing.{FailedInto, HasFailed, NeverFails, WriterFailed}
 use Rattle.gaz_exchange.specs.Turns.{IfStopped, turn_of}
 use Rattle.gaz_exchange.specs.declared.supply.Cause.{Cause}

@@ -7,6 +7,7 @@ use Rattle.gaz_keeper.specs.Keeper.{Seen}
 use Rattle.gaz_hub.specs.Step.{Command, Door, Response}
 use Rattle.gaz_hub.proofs.HubRuns.{runs_none, runs_one}
 use Rattle.gaz_exchange.specs.Asking.{asked, call_at, command_of, method_of, with_body}
+use Rattle.gaz_exchange.specs.Conversing.{Transfer}
 use Rattle.gaz_exchange.specs.Exchanges.{BeginsWithRequest, Exchange, IsAnswered, IsReplyTo}
 use Rattle.gaz_exchange.specs.Framing.{is_closing}
 use Rattle.gaz_exchange.specs.Heads.{IsOver}
@@ -15,7 +16,7 @@ use Rattle.gaz_exchange.specs.Refusals.{IsRefused, IsUnfinished}
 use Rattle.gaz_exchange.specs.Replies.{IsReplyText, reply_text, reply_to}
 use Rattle.gaz_exchange.specs.Sparing.{OneForEach, OneForEachUsed}
 use Rattle.gaz_exchange.specs.Targets.{target_of}
-use Rattle.gaz_exchange.specs.Turns.{Answers, Asks, Exchanges, IsTurn, Refuses, Rests, TurnsOut, Waits, turn_of}
+use Rattle.gaz_exchange.specs.Turns.{Answers, Asks, Exchanges, IsTurn, Refuses, Rests, Stage, TurnsOut, Waits, turn_of}
 use Rattle.gaz_exchange.specs.declared.conversation.Turn.{Turn}
 use Rattle.gaz_exchange.specs.declared.conversation.Turn.TheVariants.{Over, Stopped}
 use Rattle.gaz_exchange.specs.declared.supply.Cause.{Cause}
@@ -66,6 +67,14 @@ module _ (h : RequestHead) (body : List ℕ) where
   call_found : (routed : Bool) (call : Routed) → IsCall routed h (Ok call) → (routed ≡ true) × (asked h body ≡ Ok (command_of body call))
   call_found true call e = (refl, asked_with (Ok call) e)
   call_found false call e = absurd (cc e)
+
+-- what passed through a reader and a writer
+abbrev pub passing : (had left held holds : Option (List ℕ)) → Transfer
+passing had left held holds = record { had = had; left = left; held = held; holds = holds }
+
+-- where a conversation stands
+abbrev pub standing : Bool → ℕ → List ℕ → Seen → Stage
+standing routed reads pending hub = record { routed = routed; reads = reads; pending = pending; hub = hub }
 
 module _ (d : Door) where
   -- what an answered request comes to
@@ -132,7 +141,7 @@ module _ (d : Door) where
   -- the turn of a request that came whole
   pub turn_of_answer : (is_last was routed : Bool) (before after : ℕ) (pending read bytes rest : List ℕ) (had left held mid holds : Option (List ℕ)) (old new : Seen) (q : Request) (h : RequestHead) (turn : Turn)
       → (was ≡ true → routed ≡ true) → Consumes had left read → Keeps held mid → bytes ≡ pending ++ read → BeginsWithRequest bytes h q.body.items rest → IsCall routed h q.call → q.closing ≡ is_closing h
-      → OneForEachUsed before after bytes rest → Answers d mid holds old new q is_last turn → IsTurn d is_last was routed before after pending rest had left held holds old new turn
+      → OneForEachUsed before after bytes rest → Answers d mid holds old new q is_last turn → IsTurn d is_last (passing had left held holds) (standing was before pending old) (standing routed after rest new) turn
   turn_of_answer is_last was routed before after pending read bytes rest had left held mid holds old new q h turn stay eaten kept all begins call closing counted a =
       let put = a.sent.put in
       let o = exchange_out h bytes q.body.items rest a.sent.text q.closing is_last routed old new a.reply begins closing a.sent.told q.call call a.asked in
@@ -142,7 +151,7 @@ module _ (d : Door) where
   -- the turn of what is refused
   pub turn_of_refusal : (is_last was routed : Bool) (before after : ℕ) (pending read bytes rest : List ℕ) (had left held mid holds : Option (List ℕ)) (old : Seen) (fault : Fault) (turn : Turn)
       → (was ≡ true → routed ≡ true) → Consumes had left read → Keeps held mid → bytes ≡ pending ++ read → IsRefused bytes left fault
-      → OneForEach before after bytes (IsAtEnd left) → Refuses mid holds fault turn → IsTurn d is_last was routed before after pending rest had left held holds old old turn
+      → OneForEach before after bytes (IsAtEnd left) → Refuses mid holds fault turn → IsTurn d is_last (passing had left held holds) (standing was before pending old) (standing routed after rest old) turn
   turn_of_refusal is_last was routed before after pending read bytes rest had left held mid holds old fault turn stay eaten kept all why counted a =
       let put = a.sent.put in
       let out = refuse_turn is_last routed before after bytes rest left old old fault a.sent.text put.sent put.lost a.whole why (refusal_text fault true a.sent.text a.sent.told) put.cut put.all put.part (runs_none d old) counted in
@@ -156,7 +165,7 @@ module _ (d : Door) where
   -- the turn where the reader or the writer fails before a request is whole
   pub turn_of_failure : (is_last was routed : Bool) (before after : ℕ) (pending read rest : List ℕ) (had left held mid : Option (List ℕ)) (old : Seen) (cause : Cause)
       → (was ≡ true → routed ≡ true) → Consumes had left read → Keeps held mid → IsUnfinished (pending ++ read)
-      → OneForEach before after (pending ++ read) (cause ≡ ReadFault) → IsTurn d is_last was routed before after pending rest had left held mid old old (Stopped cause)
+      → OneForEach before after (pending ++ read) (cause ≡ ReadFault) → IsTurn d is_last (passing had left held mid) (standing was before pending old) (standing routed after rest old) (Stopped cause)
   turn_of_failure is_last was routed before after pending read rest had left held mid old cause stay eaten kept short counted =
       let out = waits_out is_last routed before after (pending ++ read) rest left old old cause (short, runs_none d old, refl, counted) in
       record { read = read; written = []; consumed = eaten; appended = kept_appends_none held mid kept; stay = stay; out = out }
@@ -164,11 +173,10 @@ module _ (d : Door) where
   -- the turn at the end
   pub turn_of_end : (is_last was routed : Bool) (before after : ℕ) (pending read rest : List ℕ) (had left held mid : Option (List ℕ)) (old : Seen)
       → (was ≡ true → routed ≡ true) → Consumes had left read → Keeps held mid → IsOver (pending ++ read) → IsAtEnd left
-      → OneForEach before after (pending ++ read) (IsAtEnd left) → IsTurn d is_last was routed before after pending rest had left held mid old old Over
+      → OneForEach before after (pending ++ read) (IsAtEnd left) → IsTurn d is_last (passing had left held mid) (standing was before pending old) (standing routed after rest old) Over
   turn_of_end is_last was routed before after pending read rest had left held mid old stay eaten kept over at_end counted =
       record { read = read; written = []; consumed = eaten; appended = kept_appends_none held mid kept; stay = stay; out = (over, at_end, runs_none d old, refl, counted) }
 
 -- a turn at one door is a turn at the same door by another name
-pub turn_at : (d e : Door) (is_last was routed : Bool) (before after : ℕ) (pending rest : List ℕ) (had left held holds : Option (List ℕ)) (old new : Seen) (turn : Turn) → d ≡ e
-    → IsTurn d is_last was routed before after pending rest had left held holds old new turn → IsTurn e is_last was routed before after pending rest had left held holds old new turn
-turn_at d e is_last was routed before after pending rest had left held holds old new turn same t = subst (λ (x : Door). IsTurn x is_last was routed before after pending rest had left held holds old new turn) same t
+pub turn_at : (d e : Door) (is_last : Bool) (through : Transfer) (old new : Stage) (turn : Turn) → d ≡ e → IsTurn d is_last through old new turn → IsTurn e is_last through old new turn
+turn_at d e is_last through old new turn same t = subst (λ (x : Door). IsTurn x is_last through old new turn) same t

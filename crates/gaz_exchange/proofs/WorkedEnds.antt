@@ -3,7 +3,7 @@ use Rattle.std.proofs.Common.{◌≡◌, ℕ, ◌+◌, true, false, List, [], �
 use Rattle.std.specs.Prelude.{take, drop}
 use Rattle.httparse.proofs.OnLiterals.{httparse_on_literals}
 use Rattle.httparse.proofs.GrammarLemmas.{request_unique}
-use Rattle.gaz_exchange.specs.Conversing.{AnswersAll, ComesTo, StopsAnswering}
+use Rattle.gaz_exchange.specs.Ends.{AnswersAll, ComesTo, StopsAnswering}
 use Rattle.gaz_exchange.specs.Exchanges.{Exchange, replies}
 use Rattle.gaz_exchange.specs.Framing.{is_closing, length_of}
 use Rattle.gaz_exchange.specs.Heads.{IsOver, NoHead, is_blank}

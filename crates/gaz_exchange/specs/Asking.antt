@@ -2,12 +2,13 @@
 use Rattle.std.specs.Prelude.{ℕ, if◌then◌else◌, List, codes, bytes_eq, Option, Some, None, Result}
 use Rattle.std.specs.Prelude.{Ok, Err}
 use Rattle.httparse.specs.Grammar.{RequestHead}
+use Rattle.gaz_ids.specs.Numbers.{read_uprn}
 use Rattle.gaz_hub.specs.Step.{Command}
 use Rattle.gaz_hub.specs.Step as hub
 use Rattle.gaz_hub.specs.declared.question.Question.TheVariants.{Ask, ListClosed, LookUp, Stand}
 use Rattle.gaz_hub.specs.declared.question.Question.TheVariants as question
 use Rattle.gaz_exchange.specs.Targets.{Target, Volume, Custodian, Extract, Property, Closed}
-use Rattle.gaz_exchange.specs.Targets.{Nowhere, target_of, code_in, volume_in, uprn_in}
+use Rattle.gaz_exchange.specs.Targets.{Nowhere, target_of, code_in, volume_in}
 use Rattle.gaz_exchange.specs.declared.fault.Allowed.TheVariants as allowed
 use Rattle.gaz_exchange.specs.declared.fault.Fault.{Fault}
 use Rattle.gaz_exchange.specs.declared.fault.Fault.TheVariants.{NotThere, NoRoute, BadMethod}
@@ -41,7 +42,7 @@ call_at (Custodian c) Other = Err (BadMethod allowed.Get)
 call_at (Extract c v) Get = Ok (Pose (question.Extract (code_in c) (volume_in v)))
 call_at (Extract c v) Post = Err (BadMethod allowed.Get)
 call_at (Extract c v) Other = Err (BadMethod allowed.Get)
-call_at (Property n) Get = look_up (uprn_in n)
+call_at (Property n) Get = look_up (read_uprn n)
 call_at (Property n) Post = Err (BadMethod allowed.Get)
 call_at (Property n) Other = Err (BadMethod allowed.Get)
 call_at Closed Get = Ok (Pose ListClosed)

@@ -5,6 +5,7 @@ use Rattle.std.specs.Prelude.{Option, Some, None, bytes_eq}
 use Rattle.std.specs.Str.{all_ascii_digits}
 use Rattle.std.specs.Str.Parse.{digits_value}
 use Rattle.httparse.specs.Grammar.{RequestHead}
+use Rattle.gaz_ids.specs.Limits.{most_bytes}
 use Rattle.gaz_exchange.specs.Headers.{Header, headers_of, count_of, value_of, asks_close}
 use Rattle.gaz_hub.specs.declared.refusal.DoorRefusal.TheVariants.{TooLarge}
 use Rattle.gaz_exchange.specs.declared.fault.Fault.TheVariants.{BadRequest, Door}
@@ -12,11 +13,11 @@ use Rattle.gaz_exchange.specs.declared.fault.Fault.TheVariants.{LengthRequired}
 use Rattle.gaz_exchange.specs.declared.framing.Framing.{Framing}
 use Rattle.gaz_exchange.specs.declared.framing.Framing.TheVariants.{Length, Refused}
 
--- the size that the value of a Content-Length tells: one or more digits, at most 1,048,576
+-- the size that the value of a Content-Length tells: one or more digits, at most those of a file
 abbrev pub size_in : List ℕ → Framing
 size_in value =
     if (length value == 0) || not (all_ascii_digits value) then Refused BadRequest
-    else if nat_lt 1048576 (digits_value 10 value) then Refused (Door TooLarge)
+    else if nat_lt most_bytes (digits_value 10 value) then Refused (Door TooLarge)
     else Length (digits_value 10 value)
 
 -- without a Content-Length: no body, but for a POST, which has to tell

@@ -11,11 +11,15 @@ most_head = 8192
 abbrev pub inlet_size : ℕ
 inlet_size = most_head + 1
 
--- the bytes begin with this head, of at most so many bytes and 32 headers, and rest follows
+-- the most headers of a request
+abbrev pub most_headers : ℕ
+most_headers = 32
+
+-- the bytes begin with this head, of at most so many bytes and headers, and rest follows
 pub record BeginsWith (bytes : List ℕ) (h : RequestHead) (rest : List ℕ) : Type 0 where
   pub reads : ReadsRequest bytes h rest
   pub short : length (print_request h) ≤ most_head
-  pub few : length h.fields ≤ 32
+  pub few : length h.fields ≤ most_headers
 
 -- the bytes begin with no head
 abbrev pub NoHead : List ℕ → Type 0

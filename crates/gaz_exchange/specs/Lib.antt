@@ -7,6 +7,7 @@ pub mod Asking
 pub mod Replies
 pub mod Exchanges
 pub mod Refusals
+pub mod Ends
 pub mod Conversing
 pub mod Streams
 pub mod WorkedStreams

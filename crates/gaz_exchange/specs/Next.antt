@@ -6,6 +6,7 @@ use Rattle.httparse.specs.Spans.{IsRequestAt, IsRequestWithin}
 use Rattle.httparse.specs.declared.spans.HeaderSpan.{HeaderSpan}
 use Rattle.httparse.specs.declared.spans.RequestSpans.{RequestSpans}
 use Rattle.gaz_exchange.specs.Heads.{IsOver, NeverHead, NoHead, is_blank, most_head}
+use Rattle.gaz_exchange.specs.Heads.{most_headers}
 use Rattle.gaz_exchange.specs.Sparing.{OneForEach, OneForEachUsed}
 use Rattle.gaz_exchange.specs.declared.heads.Look.{Look}
 use Rattle.gaz_exchange.specs.declared.heads.Look.TheVariants as look
@@ -18,7 +19,7 @@ use Rattle.gaz_exchange.specs.declared.supply.Cause.TheVariants.{ReadFault}
 abbrev pub IsHeadAt : List ℕ → List HeaderSpan → RequestSpans → Type 0
 IsHeadAt pending headers spans = IsRequestWithin pending headers spans
     × (h : RequestHead) × IsRequestAt pending headers spans h
-    × (length (print_request h) ≤ most_head) × (length h.fields ≤ 32)
+    × (length (print_request h) ≤ most_head) × (length h.fields ≤ most_headers)
 
 -- the pending bytes aren't CR and LF alone, in no more bytes than a head may have
 abbrev pub IsMore : List ℕ → Type 0

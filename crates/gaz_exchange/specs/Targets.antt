@@ -1,9 +1,9 @@
 -- What a request's target names, byte by byte as it stands.
 use Rattle.std.specs.Prelude.{ℕ, ◌==◌, ◌&&◌, nat_lt, Bool, if◌then◌else◌, List, [], ◌∷◌, length}
-use Rattle.std.specs.Prelude.{codes, bytes_eq, Option}
+use Rattle.std.specs.Prelude.{codes, bytes_eq}
 use Rattle.std.specs.List.{slice_split}
-use Rattle.std.specs.Result.{result_ok, result_unwrap_or}
-use Rattle.gaz_ids.specs.Limits.{last_uprn, last_volume}
+use Rattle.std.specs.Result.{result_unwrap_or}
+use Rattle.gaz_ids.specs.Limits.{last_code, last_volume}
 use Rattle.gaz_ids.specs.Numbers.{read_id}
 
 -- what a target names, by the texts of its numbers
@@ -63,12 +63,8 @@ target_of target = of_segments (segments target)
 
 -- the code that the digits write, or 0, which no custodian has
 abbrev pub code_in : List ℕ → ℕ
-code_in text = result_unwrap_or (read_id 4 1 9999 text) 0
+code_in text = result_unwrap_or (read_id 4 1 last_code text) 0
 
 -- the volume that the digits write, or 0, which is none
 abbrev pub volume_in : List ℕ → ℕ
 volume_in text = result_unwrap_or (read_id 6 1 last_volume text) 0
-
--- the UPRN that the digits write
-abbrev pub uprn_in : List ℕ → Option ℕ
-uprn_in text = result_ok (read_id 12 1 last_uprn text)

@@ -6,6 +6,7 @@ use Rattle.gaz_keeper.specs.Keeper.{Seen}
 use Rattle.gaz_hub.specs.Hubs.{Runs, Steps}
 use Rattle.gaz_hub.specs.Step.{Door, Response}
 use Rattle.gaz_exchange.specs.Asking.{command_of}
+use Rattle.gaz_exchange.specs.Conversing.{Transfer}
 use Rattle.gaz_exchange.specs.Exchanges.{Exchange, IsExchanged, commands_of, responses_of}
 use Rattle.gaz_exchange.specs.Framing.{is_closing}
 use Rattle.gaz_exchange.specs.Heads.{IsOver}
@@ -21,6 +22,7 @@ use Rattle.gaz_exchange.specs.declared.conversation.Turn.TheVariants.{Stopped}
 use Rattle.gaz_exchange.specs.declared.fault.Fault.{Fault}
 use Rattle.gaz_exchange.specs.declared.reply.Reply.{Reply}
 use Rattle.gaz_exchange.specs.declared.reply.Reply.TheVariants.{Refused}
+use Rattle.gaz_exchange.specs.declared.request.Intake.{Intake}
 use Rattle.gaz_exchange.specs.declared.request.Request.{Request}
 use Rattle.gaz_exchange.specs.declared.calls.Routed.{Routed}
 
@@ -111,16 +113,30 @@ TurnsOut door is_last routed before after bytes rest left old new written (Stopp
     × (e.reply ≡ written ++ lost) × OneForEachUsed before after bytes rest)
     ⊎ TurnsAway door before after bytes left old new (written ++ lost)))
 
--- one turn at a hub with this door: was and routed say whether the routes were found before and
--- after, pending and rest are the bytes pending before and after, had and left the reader's, held
--- and holds the writer's, old and new the hub's keeper
-pub record IsTurn (door : Door) (is_last was routed : Bool) (before after : ℕ)
-    (pending rest : List ℕ) (had left held holds : Option (List ℕ)) (old new : Seen) (turn : Turn)
-    : Type 0 where
+-- where a conversation stands between two turns: whether the routes were found, how often the
+-- reader was read, the bytes that are pending, and the hub as it is seen
+pub record Stage : Type 1 where
+  pub routed : Bool
+  pub reads : ℕ
+  pub pending : List ℕ
+  pub hub : Seen
+
+-- the same of a reader, an intake and a hub that are seen so
+abbrev pub stage : {R : Type 0} → (R → ℕ) → R → Intake → Seen → Stage
+stage reads reader intake hub = record {
+  routed = intake.routes;
+  reads = reads reader;
+  pending = intake.inlet;
+  hub = hub;
+}
+
+-- one turn at a hub with this door
+pub record IsTurn (door : Door) (is_last : Bool) (through : Transfer) (old new : Stage)
+    (turn : Turn) : Type 0 where
   pub read : List ℕ
   pub written : List ℕ
-  pub consumed : Consumes had left read
-  pub appended : Appends held holds written
-  pub stay : was ≡ true → routed ≡ true
-  pub out : TurnsOut door is_last routed before after (pending ++ read) rest left old new written
-      turn
+  pub consumed : Consumes through.had through.left read
+  pub appended : Appends through.held through.holds written
+  pub stay : old.routed ≡ true → new.routed ≡ true
+  pub out : TurnsOut door is_last new.routed old.reads new.reads (old.pending ++ read) new.pending
+      through.left old.hub new.hub written turn

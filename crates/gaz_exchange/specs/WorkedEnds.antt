@@ -1,7 +1,7 @@
 -- Worked examples on how a conversation ends, and how often its reader is read.
 use Rattle.std.specs.Prelude.{⊤, ℕ, List, [], ◌∷◌, Some, None, Option, Ok, Err, codes, take}
 use Rattle.std.specs.Prelude.{Result}
-use Rattle.gaz_exchange.specs.Conversing.{AnswersAll, ComesTo, Passed}
+use Rattle.gaz_exchange.specs.Ends.{AnswersAll, ComesTo, Passed}
 use Rattle.gaz_exchange.specs.Sparing.{OneForEach, OneForEachUsed}
 use Rattle.gaz_exchange.specs.WorkedStreams.{lost, lost_bytes}
 use Rattle.gaz_exchange.specs.declared.conversation.Ended.{Ended}

@@ -1,9 +1,10 @@
 //! What the hub is asked at each place, from the parts of the target that its parameters took.
 ghost use Rattle.std.specs.Prelude.{◌≡◌, ◌∷◌, [], ℕ, List, codes, IsUtf8};
+ghost use Rattle.gaz_ids.specs.Numbers.{read_uprn};
 ghost use Rattle.gaz_exchange.specs.Asking.{call_at, look_up, method_of};
 ghost use Rattle.gaz_exchange.specs.Routing.{Took};
 ghost use Rattle.gaz_exchange.specs.Targets as seen;
-ghost use Rattle.gaz_exchange.specs.Targets.{code_in, uprn_in, volume_in};
+ghost use Rattle.gaz_exchange.specs.Targets.{code_in, volume_in};
 
 use crate::fault::{Allowed, Fault};
 use gaz_hub::Question;
@@ -60,7 +61,7 @@ fn volume_of(text: &str) -> u64
 
 // The UPRN that the text writes.
 fn uprn_of(text: &str) -> Option<Uprn>
-    ensures { result ≡ uprn_in text.now }
+    ensures { result ≡ read_uprn text.now }
 {
     Uprn::read(text.as_bytes()).ok()
 }

@@ -3,11 +3,12 @@ ghost use Rattle.std.specs.Io.KnownBytes.{Keeps};
 ghost use Rattle.gaz_keeper.specs.Keeper.{IsNotOpen};
 ghost use Rattle.gaz_hub.specs.Hubs.{door_of};
 ghost use Rattle.gaz_hub.specs.Seen.{hub_seen};
-ghost use Rattle.gaz_exchange.specs.Conversing.{CountedConversation, FinishesAs, StopsByFault};
+ghost use Rattle.gaz_exchange.specs.Conversing.{CountedConversation, StopsByFault};
+ghost use Rattle.gaz_exchange.specs.Ends.{FinishesAs};
 ghost use Rattle.gaz_exchange.specs.Conversing.{transfer};
 ghost use Rattle.gaz_exchange.specs.Failing.{FailedInto, HasFailed, WriterFailed};
 ghost use Rattle.gaz_exchange.specs.Turns.{Answers, Asks, IfStopped, IsAsked, IsTurn, Refuses};
-ghost use Rattle.gaz_exchange.specs.Turns.{turn_of};
+ghost use Rattle.gaz_exchange.specs.Turns.{stage, turn_of};
 
 use crate::calls::Routed;
 use crate::fault::Fault;
@@ -134,10 +135,9 @@ fn take_turn<R: Source, W: Sink, K: Inbox + Drop>(
 ) -> Turn
     requires idle { IsNotOpen (K.seen hub.old.keeper).progress }
     ensures turn { IsTurn (door_of hub.old.register) is_last
-        intake.old.routes intake.new.routes (R.reads r.old) (R.reads r.new)
-        intake.old.inlet intake.new.inlet
-        (R.remaining r.old) (R.remaining r.new) (W.contents w.old) (W.contents w.new)
-        (hub_seen K.seen hub.old) (hub_seen K.seen hub.new) result }
+        (transfer R.remaining W.contents r.old r.new w.old w.new)
+        (stage R.reads r.old intake.old (hub_seen K.seen hub.old))
+        (stage R.reads r.new intake.new (hub_seen K.seen hub.new)) result }
     ensures failed { IfStopped result (HasFailed R.failed W.failed r.new w.new) }
     ensures register { hub.new.register ≡ hub.old.register }
 {
@@ -219,8 +219,8 @@ fn take_turns<R: Source, W: Sink, K: Inbox + Drop>(
 /// hub remembered of it was right, and nobody else wrote on it nor did a failure shut it.
 ///
 /// It stops only where the reader or the writer failed. A reader whose reads are counted is read at
-/// most once for each byte, and once more, which finds the end or fails; for bytes behind the last
-/// request it isn't read.
+/// most once for each byte, and once more, which finds the end or fails; where no request may
+/// follow, at most once for each byte of the requests.
 pub fn converse<R: Source, W: Sink, K: Inbox + Drop>(
     alloc: Global,
     r: &mut R,

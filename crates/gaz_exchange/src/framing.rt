@@ -2,6 +2,7 @@ ghost use Rattle.std.specs.Prelude.{◌≡◌, ◌≤◌, ◌<◌, true, length,
 ghost use Rattle.std.specs.Str.{all_ascii_digits};
 ghost use Rattle.std.specs.Str.Parse.{digits_value};
 ghost use Rattle.httparse.specs.Spans.{IsHeaderWithin, header_bytes};
+ghost use Rattle.gaz_ids.specs.Limits.{most_bytes};
 ghost use Rattle.gaz_exchange.specs.Framing.{is_post_method, length_in, size_in};
 
 use crate::fault::Fault;
@@ -25,8 +26,8 @@ pub enum Framing {
 fn limited_value(digits: &[u8]) -> Option<usize>
     requires { all_ascii_digits digits.now ≡ true }
     ensures value { IfSome result (λ n. n ≡ digits_value 10 digits.now) }
-    ensures fits { IfSome result (λ n. n ≤ 1048576) }
-    ensures exceeds { IfNone result (1048576 < digits_value 10 digits.now) }
+    ensures fits { IfSome result (λ n. n ≤ most_bytes) }
+    ensures exceeds { IfNone result (most_bytes < digits_value 10 digits.now) }
 {
     let mut value = 0;
     for byte in digits {

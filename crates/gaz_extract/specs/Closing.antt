@@ -12,13 +12,13 @@ use Rattle.gaz_register.specs.Registers.{RegisterValue, owner_of_usrn}
 use Rattle.gaz_keeper.specs.Board.{Board, last_view, view_after}
 use Rattle.gaz_views.specs.Reading.{left_after}
 use Rattle.gaz_views.specs.Words.{is_approved, rest_of}
-use Rattle.gaz_extract.specs.Finding.{has_closed_street, street_at}
+use Rattle.gaz_extract.specs.Finding.{is_closed, street_at}
 use Rattle.gaz_extract.specs.declared.closed.Closed.{Closed}
 
 -- a street is there and closed in the last view of the custodian whose block holds it
 abbrev pub closed_at_owner : Board → RegisterValue → ℕ → Bool
 closed_at_owner board register usrn =
-    option_map_or (λ owner. has_closed_street (last_view board owner) usrn)
+    option_map_or (λ owner. is_closed (last_view board owner) usrn)
     (owner_of_usrn register usrn) false
 
 -- a street isn't in the own last view, and is closed in its owner's

@@ -1,6 +1,6 @@
 -- What stands in a view under a number or a text.
-use Rattle.std.specs.Prelude.{ℕ, Bool, false, Option, Some, None, is_some}
-use Rattle.std.specs.Option.{option_and_then, option_map_or}
+use Rattle.std.specs.Prelude.{ℕ, Option, Some, None}
+use Rattle.std.specs.Option.{option_and_then}
 use Rattle.std.specs.FinMap as map
 use Rattle.gaz_ids.specs.declared.lang.Lang.{Lang}
 use Rattle.gaz_records.specs.Descriptors.{DescriptorValue}
@@ -9,7 +9,7 @@ use Rattle.gaz_records.specs.declared.item.Item.{Item}
 use Rattle.gaz_records.specs.declared.item.Item.TheVariants as item
 use Rattle.gaz_records.specs.declared.key.Key.TheVariants as key
 use Rattle.gaz_views.specs.View.{View}
-pub use Rattle.gaz_views.specs.Numbered.{as_blpu, as_street, blpu_at, street_at}
+pub use Rattle.gaz_views.specs.Numbered.{as_blpu, as_street, blpu_at, is_closed, street_at}
 
 -- the descriptor, where an item is one
 abbrev pub as_descriptor : Item → Option DescriptorValue
@@ -20,10 +20,6 @@ as_descriptor _ = None
 abbrev pub as_lpi : Item → Option LpiValue
 as_lpi (item.Lpi l) = Some l
 as_lpi _ = None
-
--- the street of this number is there and has an end date
-abbrev pub has_closed_street : View → ℕ → Bool
-has_closed_street v usrn = option_map_or (λ s. is_some s.end) (street_at v usrn) false
 
 -- the descriptor of this street in this language
 abbrev pub descriptor_at : View → ℕ → Lang → Option DescriptorValue

@@ -4,7 +4,7 @@ ghost use Rattle.std.specs.FinMap as map;
 ghost use Rattle.std.specs.Option.{option_and_then};
 ghost use Rattle.gaz_views.specs.Words.{property_of};
 ghost use Rattle.gaz_extract.specs.Finding.{as_descriptor, descriptor_at};
-ghost use Rattle.gaz_extract.specs.Finding.{has_closed_street, street_at};
+ghost use Rattle.gaz_extract.specs.Finding.{is_closed, street_at};
 ghost use Rattle.gaz_extract.specs.Readings.{LooksAtLast};
 ghost use Rattle.gaz_keeper.specs.Telling.{IsNotJudging};
 
@@ -46,7 +46,7 @@ pub fn has_closed_street<K: Shelf>(
 ) -> Result<bool, ShelfFault>
     requires { IsNotJudging K.seen keeper.old }
     ensures tells { LooksAtLast K.seen keeper.old keeper.new result code
-        (λ view b. b ≡ has_closed_street view usrn) }
+        (λ view b. b ≡ is_closed view usrn) }
     ensures not_open { IsNotJudging K.seen keeper.new }
 {
     let item = item_now(keeper, code, &Key::Street(usrn))?;

@@ -7,7 +7,7 @@ use Rattle.std.specs.FinMap as map
 use Rattle.gaz_changefile.specs.Contents.{Contents}
 use Rattle.gaz_changefile.specs.Reading.{Good, Bad, Reading, reading}
 use Rattle.gaz_changefile.specs.declared.change.Basis.{Basis}
-use Rattle.gaz_register.specs.Registers.{Blocks, RegisterValue}
+use Rattle.gaz_register.specs.Registers.{Blocks, Owners, RegisterValue}
 use Rattle.gaz_keeper.specs.Board.{Board, Judgement, adds, empty_board, reached}
 use Rattle.gaz_keeper.specs.Keeper.{Content, Counts, Enters, IsAtHand, IsNotOpen, Seen, after_abandon, after_skip, with_judgement}
 use Rattle.gaz_keeper.specs.Received.{Received}
@@ -20,7 +20,7 @@ use Rattle.gaz_rules.specs.Judging.{bases_of, judge}
 use Rattle.gaz_extract.specs.Readings.{Looks}
 use Rattle.gaz_hub.specs.Hubs.{AreKnown, IsSoundFor, MayHave, door_of, state_of}
 use Rattle.gaz_hub.specs.Settling.{Advances, IsAll, IsNext, IsReadyAs, Tries}
-use Rattle.gaz_hub.specs.Standing.{Follows, IsPartial, Leads, Register, judge_one, next_reading, ready, with_next}
+use Rattle.gaz_hub.specs.Standing.{Follows, IsPartial, Leads, judge_one, next_reading, ready, with_next}
 use Rattle.gaz_hub.specs.Step.{Door, blocks}
 use Rattle.gaz_hub.specs.Stops.{IsLater, Stops}
 use Rattle.gaz_hub.specs.declared.looking.Next.{Next}
@@ -153,7 +153,7 @@ pub is_at_hand : (k : Content) (c : ℕ) (r : Reading) → next_reading k.files 
 is_at_hand k c r e = was_some (λ bytes. reading bytes c (reached k.board c + 1)) (map.get k.files (c, reached k.board c + 1)) r e
 
 -- it is the judgement that the board gets
-pub added_is : (G : Register) (F : Received) (B : Board) (c : ℕ) (r : Reading) → next_reading F B c ≡ Some r → adds B c (judged_on (G c) B c r) ≡ judge_one G F B c
+pub added_is : (G : Owners) (F : Received) (B : Board) (c : ℕ) (r : Reading) → next_reading F B c ≡ Some r → adds B c (judged_on (G c) B c r) ≡ judge_one G F B c
 added_is G F B c r e =
     fun_ext (λ d. elim (eqb d c) as (λ b. eqb d c ≡ b → cond b (B d ++ judged_on (G c) B c r ∷ []) (B d) ≡ cond b (with_next G F B d) (B d)) [
       | true ↦ λ t.

@@ -4,13 +4,13 @@ use Rattle.std.proofs.lemmas.Bool.Decides.{leb_tells}
 use Rattle.std.proofs.lemmas.List.{length_push}
 use Rattle.std.specs.Prelude.{is_some, Some}
 use Rattle.std.specs.List.{find}
-use Rattle.gaz_register.specs.Registers.{CustodianValue, RegisterValue, knows}
+use Rattle.gaz_register.specs.Registers.{CustodianValue, Owners, RegisterValue, knows}
 use Rattle.gaz_keeper.specs.Board.{Board, reached}
 use Rattle.gaz_keeper.specs.Received.{Received}
 use Rattle.gaz_hub.specs.Step.{blocks}
 use Rattle.gaz_hub.specs.Hubs.{AreKnown, StandsFor, door_of}
 use Rattle.gaz_hub.specs.Settling.{Advances, IsAll, capped, judged_by}
-use Rattle.gaz_hub.specs.Standing.{Leads, Register, judge_one, ready, with_next}
+use Rattle.gaz_hub.specs.Standing.{Leads, judge_one, ready, with_next}
 use Rattle.gaz_keeper.specs.Keeper.{Seen}
 use Rattle.gaz_hub.proofs.Orders.{judge_one_moved, moved_below, next, ready_gives, with_next_is}
 use Rattle.gaz_hub.proofs.Prefixes.{prefix_length}
@@ -50,7 +50,7 @@ total_one (k ∷ reg) B C c up more within e =
     ] refl e
 
 -- each judgement of a ready file is one more
-leads_total : (reg : RegisterValue) (G : Register) (F : Received) → AreKnown (door_of reg) F → (B : Board) (order : List ℕ) (C : Board) → Leads G F B order C
+leads_total : (reg : RegisterValue) (G : Owners) (F : Received) → AreKnown (door_of reg) F → (B : Board) (order : List ℕ) (C : Board) → Leads G F B order C
     → judged_by reg B + length order ≤ judged_by reg C
 leads_total reg G F known B [] C e = let same : judged_by reg C ≡ judged_by reg B = ap (judged_by reg) e in omega arith
 leads_total reg G F known B (c ∷ order) C l =

@@ -3,6 +3,7 @@ use Rattle.std.proofs.Common.{◌≡◌, ◌⊎◌, inl, inr, ℕ, zero, suc, �
 use Rattle.std.proofs.Math.Path.{fun_ext}
 use Rattle.std.specs.Prelude.{Some, slice_get, unwrap_or}
 use Rattle.std.specs.Option.{option_map}
+use Rattle.gaz_register.specs.Registers.{Owners}
 use Rattle.gaz_changefile.specs.Reading.{Reading, reading}
 use Rattle.gaz_chains.specs.Events.{appended}
 use Rattle.gaz_keeper.specs.Board.{Board, Judgement, adds, reached, views}
@@ -10,7 +11,7 @@ use Rattle.gaz_keeper.specs.Received.{Received}
 use Rattle.gaz_rules.specs.Bases.{judged_on}
 use Rattle.gaz_views.specs.View.{empty_view}
 use Rattle.gaz_hub.specs.Became.{became, made_from, made_in, reading_at}
-use Rattle.gaz_hub.specs.Standing.{Register, judge_one, ready}
+use Rattle.gaz_hub.specs.Standing.{judge_one, ready}
 use Rattle.gaz_hub.proofs.Advancing.{added_is}
 use Rattle.gaz_hub.proofs.Orders.{ready_gives}
 
@@ -28,7 +29,7 @@ has_file F B c h =
     let is = ready_gives F B c h in
     record { bytes = is.bytes; came = ap (option_map (λ bytes. reading bytes c (reached B c + 1))) is.came }
 
-pub judged_is : (G : Register) (F : Received) (B : Board) (c : ℕ) (file : HasFile F B c) → judge_one G F B c ≡ adds B c (judged_on (G c) B c (read_now F B c file))
+pub judged_is : (G : Owners) (F : Received) (B : Board) (c : ℕ) (file : HasFile F B c) → judge_one G F B c ≡ adds B c (judged_on (G c) B c (read_now F B c file))
 judged_is G F B c file = sym (added_is G F B c (read_now F B c file) file.came)
 
 -- ---- views

@@ -17,7 +17,7 @@ use Rattle.gaz_changefile.specs.declared.change.Basis.{Basis}
 use Rattle.gaz_keeper.specs.Board.{Board, Judgement, adds, empty_board, last_view, view_after}
 use Rattle.gaz_keeper.specs.Received.{Received}
 use Rattle.gaz_register.proofs.Ownership.{one-owner}
-use Rattle.gaz_register.specs.Registers.{IsRegister, RegisterValue, blocks_of, owner_of_uprn, within}
+use Rattle.gaz_register.specs.Registers.{IsRegister, Owners, RegisterValue, blocks_of, owner_of_uprn, within}
 use Rattle.gaz_rules.specs.Bases.{basis_views, judged_on}
 use Rattle.gaz_rules.specs.CustodyRules.{basis_of}
 use Rattle.gaz_rules.specs.Judging.{bases_of}
@@ -26,7 +26,7 @@ use Rattle.gaz_views.specs.View.{View, custody_at, empty_view}
 use Rattle.gaz_views.specs.declared.custody.Custody.{Custody}
 use Rattle.gaz_hub.specs.Became.{became, made_in}
 use Rattle.gaz_hub.specs.Chains.{OneChain}
-use Rattle.gaz_hub.specs.Standing.{IsPartial, Leads, Register, judge_one, ready}
+use Rattle.gaz_hub.specs.Standing.{IsPartial, Leads, judge_one, ready}
 use Rattle.gaz_hub.proofs.ChainBoards.{became_more, has_file, judged_is, read_now, view_last, view_split}
 use Rattle.gaz_hub.proofs.ChainFiles.{file_kept}
 
@@ -72,7 +72,7 @@ known_more B c j uprn ev made was now d volume e there =
       | false ↦ λ _ there. was d volume e there
     ] refl there
 
-module _ (G : Register) (F : Received) (a uprn : ℕ) (is : IsAllotted (λ d. within (G d).uprn uprn) a) where
+module _ (G : Owners) (F : Received) (a uprn : ℕ) (is : IsAllotted (λ d. within (G d).uprn uprn) a) where
   empty_fine : IsFine F a uprn empty_board
   empty_fine = record {
     kept = none_kept a;

@@ -1,5 +1,5 @@
 -- With more files the same became of a number; chains are short; and who is found holds it.
-use Rattle.std.proofs.Common.{◌≡◌, ◌≤◌, ◌+◌, ℕ, zero, suc, Bool, true, false, ◌&&◌, cond, eqb, eqb-true, List, [], ◌∷◌, ◌++◌, length, refl, sym, ap, ◌∙◌, subst, arith, leb-true, eq-eqb}
+use Rattle.std.proofs.Common.{◌≡◌, ◌≤◌, ◌+◌, ℕ, zero, suc, true, false, ◌&&◌, cond, eqb, eqb-true, List, [], ◌∷◌, ◌++◌, length, refl, sym, ap, ◌∙◌, subst, arith, leb-true, eq-eqb}
 use Rattle.std.proofs.Math.Path.{fun_ext}
 use Rattle.std.proofs.lemmas.List.Elements.{All-head, All-tail}
 use Rattle.std.proofs.lemmas.Option.{none-some, same_Some}
@@ -10,30 +10,28 @@ use Rattle.std.specs.FinMap as map
 use Rattle.gaz_changefile.proofs.Typed.{readings_are_typed}
 use Rattle.gaz_changefile.specs.Reading.{Bad, Good, Reading, reading}
 use Rattle.gaz_changefile.specs.declared.change.Change.{Change}
-use Rattle.gaz_chains.specs.Chains.{IsChain, IsHop, holder}
+use Rattle.gaz_chains.specs.Chains.{IsChain, IsHop}
 use Rattle.gaz_chains.specs.Events.{Events}
 use Rattle.gaz_chains.specs.Finding.{found}
-use Rattle.gaz_chains.specs.Laws.{IsAllotted}
 use Rattle.gaz_chains.proofs.Finding.{finds_from_first}
-use Rattle.gaz_keeper.specs.Board.{Board, Judgement, empty_board, last_view}
-use Rattle.gaz_keeper.specs.Received.{Received}
+use Rattle.gaz_keeper.specs.Board.{Board, Judgement, empty_board}
+use Rattle.gaz_keeper.specs.Received.{HasAllOf, Received}
 use Rattle.gaz_records.specs.Blpus.{is_blpu, is_uprn}
 use Rattle.gaz_records.specs.Items.{is_item}
 use Rattle.gaz_records.specs.Releases.{is_code, is_hop}
 use Rattle.gaz_records.specs.declared.item.Item.{Item}
 use Rattle.gaz_records.specs.declared.item.Item.TheVariants as item
-use Rattle.gaz_register.specs.Registers.{IsRegister, RegisterValue, blocks_of, owner_of_uprn, within}
+use Rattle.gaz_register.specs.Registers.{Owners, blocks_of}
 use Rattle.gaz_rules.specs.Bases.{judged_on}
 use Rattle.gaz_rules.specs.Passing.{made_of}
 use Rattle.gaz_views.specs.Custody.{hop_in}
-use Rattle.gaz_views.specs.View.{custody_at}
 use Rattle.gaz_views.specs.declared.custody.Custody.{Custody}
 use Rattle.gaz_views.specs.declared.custody.Custody.TheVariants.{Adopted, Released}
 use Rattle.gaz_views.specs.declared.verdict.Verdict.{Verdict}
 use Rattle.gaz_views.specs.declared.verdict.Verdict.TheVariants.{Applied, Rejected}
 use Rattle.gaz_hub.specs.Became.{became, made_by, made_from, made_in}
 use Rattle.gaz_hub.specs.Chains.{ChainsAreShort, ChainsGrow, FindsHolders}
-use Rattle.gaz_hub.specs.Standing.{HasAllOf, IsPartial, Leads, Register, judge_one, ready}
+use Rattle.gaz_hub.specs.Standing.{IsPartial, Leads, judge_one, ready}
 use Rattle.gaz_hub.proofs.ChainBoards.{has_file, judged_is, read_now}
 use Rattle.gaz_hub.proofs.ChainFine.{allotted_is, partial_fine}
 use Rattle.gaz_hub.proofs.ChainLater.{chains_of_boards_holds}
@@ -62,7 +60,7 @@ same_made F bigger uprn c all (j ∷ js) n came =
 abbrev EachCame : Received → Board → Type 0
 EachCame F B = (d : ℕ) → AllCame F d 0 (B d)
 
-module _ (G : Register) (F : Received) where
+module _ (G : Owners) (F : Received) where
   one_came : (B : Board) (c : ℕ) → EachCame F B → ready F B c ≡ true → EachCame F (judge_one G F B c)
   one_came B c came h =
       let is = ready_gives F B c h in
@@ -79,7 +77,7 @@ module _ (G : Register) (F : Received) where
   leads_came B [] C came e = subst (EachCame F) (sym e) came
   leads_came B (c ∷ order) C came l = leads_came (judge_one G F B c) order C (one_came B c came l.0) l.1
 
-same_became : (G : Register) (F bigger : Received) (B : Board) (uprn : ℕ) → IsPartial G F B → HasAllOf bigger F → became bigger B uprn ≡ became F B uprn
+same_became : (G : Owners) (F bigger : Received) (B : Board) (uprn : ℕ) → IsPartial G F B → HasAllOf bigger F → became bigger B uprn ≡ became F B uprn
 same_became G F bigger B uprn partial all =
     let came = leads_came G F empty_board partial.order B (λ d. record {}) partial.leads in
     fun_ext (λ d. same_made F bigger uprn d all (B d) 0 (came d))
@@ -172,19 +170,8 @@ chains_are_short_hold F B a uprn chain offered k =
 
 -- ---- who is found
 
-module _ (register : RegisterValue) (F : Received) (B : Board) (a uprn : ℕ) (is : IsRegister register) (own : owner_of_uprn register uprn ≡ Some a) (partial : IsPartial (blocks_of register) F B) (chain : List ℕ) (offered : Option ℕ) (k : IsChain a (became F B uprn) chain offered) where
-  finds_by : (owns : ℕ → Bool) → IsAllotted owns a → (turns : ℕ) → length chain ≤ turns → found (λ c. custody_at (last_view B c) uprn) owns turns a ≡ holder chain offered
-  finds_by owns at turns few =
-      let fine = partial_fine (blocks_of register) F a uprn (allotted_is register a uprn is own) B partial in
-      ap (λ (shown : ℕ → Option Custody). found shown owns turns a) (fun_ext fine.shown)
-      ∙ finds_from_first owns a at (became F B uprn) chain offered k fine.kept.rising turns few
-
-  -- where the owner is told by its code
-  pub finds_owner : (turns : ℕ) → length chain ≤ turns → found (λ c. custody_at (last_view B c) uprn) (λ c. eqb c a) turns a ≡ holder chain offered
-  finds_owner turns few = finds_by (λ c. eqb c a) (record { own_number = eq-eqb a a refl; of_nobody_else = λ c e. eqb-true c a e }) turns few
-
-  pub finds_within : (turns : ℕ) → length chain ≤ turns → found (λ c. custody_at (last_view B c) uprn) (λ c. within (blocks_of register c).uprn uprn) turns a ≡ holder chain offered
-  finds_within turns few = finds_by (λ c. within (blocks_of register c).uprn uprn) (allotted_is register a uprn is own) turns few
-
 pub finds_holders_holds : FindsHolders
-finds_holders_holds register F B a uprn chain offered turns is own partial k few = finds_within register F B a uprn is own partial chain offered k turns few
+finds_holders_holds register F B a uprn chain offered is own partial k =
+    let fine = partial_fine (blocks_of register) F a uprn (allotted_is register a uprn is own) B partial in
+    ap (λ (shown : ℕ → Option Custody). found shown (λ c. eqb c a) 10000 a) (fun_ext fine.shown)
+    ∙ finds_from_first (λ c. eqb c a) a (record { own_number = eq-eqb a a refl; of_nobody_else = λ c e. eqb-true c a e }) (became F B uprn) chain offered k fine.kept.rising 10000 (chains_are_short_hold F B a uprn chain offered k)

@@ -10,7 +10,7 @@ use Rattle.gaz_changefile.specs.declared.change.Change.{Change}
 use Rattle.gaz_keeper.specs.Board.{Board, Judgement, adds, empty_board, last_view, reached, view_after}
 use Rattle.gaz_keeper.specs.Received.{Received}
 use Rattle.gaz_register.proofs.Ownership.{one-owner}
-use Rattle.gaz_register.specs.Registers.{Blocks, IsRegister, RegisterValue, blocks_of, owner_of_uprn, within}
+use Rattle.gaz_register.specs.Registers.{Blocks, IsRegister, Owners, RegisterValue, blocks_of, owner_of_uprn, within}
 use Rattle.gaz_rules.specs.Bases.{basis_views, judged_on}
 use Rattle.gaz_rules.proofs.Passing.{passes_as_asked_holds}
 use Rattle.gaz_rules.specs.CustodyRules.{basis_of}
@@ -23,7 +23,7 @@ use Rattle.gaz_views.specs.declared.custody.Custody.{Custody}
 use Rattle.gaz_views.specs.declared.custody.Custody.TheVariants.{Adopted, Released}
 use Rattle.gaz_hub.specs.Became.{became, made_by, made_in}
 use Rattle.gaz_hub.specs.Chains.{UnallottedStay}
-use Rattle.gaz_hub.specs.Standing.{IsPartial, Leads, Register, judge_one, ready}
+use Rattle.gaz_hub.specs.Standing.{IsPartial, Leads, judge_one, ready}
 use Rattle.gaz_hub.proofs.ChainBoards.{became_more, has_file, judged_is, read_now, view_split}
 use Rattle.gaz_hub.proofs.ChainFine.{basis_found, none_at_first}
 use Rattle.gaz_hub.proofs.ChainTests.{both_empty, first_none, no_fault}
@@ -68,7 +68,7 @@ view_more uprn B c j was now d volume =
       | false ↦ was d volume
     ]
 
-module _ (G : Register) (F : Received) (uprn : ℕ) (outside : (c : ℕ) → within (G c).uprn uprn ≡ false) where
+module _ (G : Owners) (F : Received) (uprn : ℕ) (outside : (c : ℕ) → within (G c).uprn uprn ≡ false) where
   empty_none : IsNobodys F uprn empty_board
   empty_none = record { became_none = λ d. refl; shows_none = λ d volume. nothing volume }
     where

@@ -6,12 +6,12 @@ use Rattle.std.specs.FinMap as map
 use Rattle.gaz_register.specs.Registers.{knows}
 use Rattle.gaz_keeper.specs.Board.{empty_board}
 use Rattle.gaz_keeper.specs.Keeper.{Content, LeavesOnly, Seen, after_stop}
-use Rattle.gaz_keeper.specs.Received.{Received, with_file}
+use Rattle.gaz_keeper.specs.Received.{HasAllOf, Received, with_file}
 use Rattle.gaz_views.specs.View.{empty_view}
 use Rattle.gaz_hub.specs.Found.{EveryStopOver, HasFilesAfter, HasFilesAt, HasFilesOf}
 use Rattle.gaz_hub.specs.Hubs.{AreKnown, Runs, StandsFor, state_of}
 use Rattle.gaz_hub.specs.Runs.{Run, accepted, is_answered_51, same_pair}
-use Rattle.gaz_hub.specs.Standing.{HasAllOf, IsPartial}
+use Rattle.gaz_hub.specs.Standing.{IsPartial}
 use Rattle.gaz_hub.specs.Step.{Command, Door, HubState, Pose, Replied, Response, Step, Submit, Submitted, blocks, file_refusal}
 use Rattle.gaz_hub.specs.Stops.{IsLater, IsLaterWith, IsLeftAfter, IsLeftBy, IsLeftOnceTold}
 use Rattle.gaz_hub.specs.declared.answer.Answer.TheVariants.{New, Repeat, Taken, Refused}

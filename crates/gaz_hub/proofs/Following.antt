@@ -8,7 +8,8 @@ use Rattle.gaz_extract.specs.declared.found.Found.{Found}
 use Rattle.gaz_keeper.specs.Board.{Board}
 use Rattle.gaz_register.specs.Registers.{RegisterValue, owner_of_uprn}
 use Rattle.gaz_views.specs.declared.custody.Custody.{Custody}
-use Rattle.gaz_hub.specs.Owners.{holder_from, said_by_known, told_by_holder}
+use Rattle.gaz_hub.specs.Chains.{holder_from}
+use Rattle.gaz_hub.specs.Owners.{said_by_known, told_by_holder}
 
 module _ (shown : ℕ → Option Custody) (own : ℕ → Bool) where
   abbrev after_asking : ℕ → ℕ → Asked → Option ℕ

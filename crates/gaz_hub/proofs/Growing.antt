@@ -5,7 +5,7 @@ use Rattle.std.specs.Prelude.{is_some, Option, Some, None}
 use Rattle.std.specs.FinMap as map
 use Rattle.std.specs.Option.{option_map_or, option_or}
 use Rattle.gaz_register.specs.Growing.{Extends}
-use Rattle.gaz_register.specs.Registers.{Blocks, RegisterValue, blocks_of}
+use Rattle.gaz_register.specs.Registers.{Blocks, Owners, RegisterValue, blocks_of}
 use Rattle.gaz_rules.specs.Bases.{judged_on}
 use Rattle.gaz_keeper.specs.Board.{Board, empty_board, reached}
 use Rattle.gaz_keeper.specs.Keeper.{Seen}
@@ -13,7 +13,7 @@ use Rattle.gaz_keeper.specs.Received.{Received}
 use Rattle.gaz_hub.specs.Growth.{AllReadOffGrown, EveryGrownRun, GrowthKeeps, GrowthStands, first_ever}
 use Rattle.gaz_hub.specs.Hubs.{AreKnown, door_of}
 use Rattle.gaz_hub.specs.Runs.{first_received}
-use Rattle.gaz_hub.specs.Standing.{IsPartial, Leads, Register, judge_one, next_reading, ready, standing, with_next}
+use Rattle.gaz_hub.specs.Standing.{IsPartial, Leads, judge_one, next_reading, ready, standing, with_next}
 use Rattle.gaz_hub.specs.Step.{HubState}
 use Rattle.gaz_hub.proofs.Answers.{every_answer_holds}
 use Rattle.gaz_hub.proofs.Finding.{run_known}
@@ -24,7 +24,7 @@ use Rattle.gaz_hub.proofs.Runs.{every_run_from_holds}
 -- ---- one judgement after another
 
 -- a custodian with the same blocks is judged the same
-same_one : (G H : Register) (F : Received) (B : Board) (c : ℕ) → H c ≡ G c → judge_one H F B c ≡ judge_one G F B c
+same_one : (G H : Owners) (F : Received) (B : Board) (c : ℕ) → H c ≡ G c → judge_one H F B c ≡ judge_one G F B c
 same_one G H F B c same =
     fun_ext (λ d. elim (eqb d c) as (λ b. eqb d c ≡ b → cond b (with_next H F B d) (B d) ≡ cond b (with_next G F B d) (B d)) [
       | true ↦ λ t.
@@ -34,7 +34,7 @@ same_one G H F B c same =
     ] refl)
 
 -- where each that is ready has the same blocks
-leads_same : (G H : Register) (F : Received) → ((B : Board) (c : ℕ) → ready F B c ≡ true → H c ≡ G c) → (B : Board) (order : List ℕ) (C : Board) → Leads G F B order C → Leads H F B order C
+leads_same : (G H : Owners) (F : Received) → ((B : Board) (c : ℕ) → ready F B c ≡ true → H c ≡ G c) → (B : Board) (order : List ℕ) (C : Board) → Leads G F B order C → Leads H F B order C
 leads_same G H F same B [] C e = e
 leads_same G H F same B (c ∷ order) C l =
     let one = same_one G H F B c (same B c l.0) in

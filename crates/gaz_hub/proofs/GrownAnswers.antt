@@ -6,7 +6,7 @@ use Rattle.std.specs.Prelude.{⊤, Bool, not, ◌&&◌, ◌+◌, suc, is_some, f
 use Rattle.std.specs.List.{AllAdjacentBelow, cons_option, filter_map, find, flat_map}
 use Rattle.std.specs.Option.{option_and_then, option_map_or}
 use Rattle.gaz_extract.specs.Closing.{closed_among, closed_at_owner, closed_by, closed_of, closed_streets, is_on_closed}
-use Rattle.gaz_extract.specs.Finding.{as_blpu, as_descriptor, as_street, blpu_at, descriptor_at, has_closed_street, street_at}
+use Rattle.gaz_extract.specs.Finding.{as_blpu, as_descriptor, as_street, blpu_at, descriptor_at, is_closed, street_at}
 use Rattle.gaz_extract.specs.Lookups.{descriptor_now, line_at, line_now, lookup, said_by, address_in}
 use Rattle.gaz_extract.specs.Lines.{line_text}
 use Rattle.gaz_extract.specs.declared.found.Found.{Found}
@@ -204,7 +204,7 @@ module _ (old grown : RegisterValue) (is_old : IsRegister old) (is_grown : IsReg
   -- ---- addresses on closed streets
 
   same_closed_at : (usrn : ℕ) → closed_at_owner B grown usrn ≡ closed_at_owner B old usrn
-  same_closed_at usrn = same_usrn (λ o. option_map_or (λ owner. has_closed_street (last_view B owner) usrn) o false) (λ c joined_later. ap (λ v. has_closed_street v usrn) (bare_view c joined_later) ∙ ap (λ o. option_map_or (λ s. is_some s.end) (option_and_then as_street o) false) (get_none (key.Street usrn))) usrn
+  same_closed_at usrn = same_usrn (λ o. option_map_or (λ owner. is_closed (last_view B owner) usrn) o false) (λ c joined_later. ap (λ v. is_closed v usrn) (bare_view c joined_later) ∙ ap (λ o. option_map_or (λ s. is_some s.end) (option_and_then as_street o) false) (get_none (key.Street usrn))) usrn
 
   same_on_closed : (c : ℕ) (lpi : LpiValue) → is_on_closed B grown c lpi ≡ is_on_closed B old c lpi
   same_on_closed c lpi = ap (λ b. is_approved lpi.status && (not (is_some (street_at (last_view B c) lpi.usrn)) && b)) (same_closed_at lpi.usrn)

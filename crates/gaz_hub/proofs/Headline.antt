@@ -5,21 +5,21 @@ use Rattle.std.specs.Prelude.{is_some}
 use Rattle.std.specs.FinMap as map
 use Rattle.gaz_changefile.proofs.Orderly.{bases-rise}
 use Rattle.gaz_changefile.specs.Reading.{Reading, Good, Bad, reading}
-use Rattle.gaz_register.specs.Registers.{blocks_of}
+use Rattle.gaz_register.specs.Registers.{Owners, blocks_of}
 use Rattle.gaz_rules.proofs.SoundBoards.{boards_stay_sound_holds}
 use Rattle.gaz_rules.specs.Sound.{AreDisjoint, IsSoundBoard, NamesOthers}
 use Rattle.gaz_keeper.specs.Board.{Board, empty_board, reached}
-use Rattle.gaz_keeper.specs.Keeper.{Content, Seen, empty_content}
+use Rattle.gaz_keeper.specs.Keeper.{Content, Seen}
 use Rattle.gaz_keeper.specs.Received.{Received, pair_cmp}
-use Rattle.gaz_hub.specs.Hubs.{MayHave, StandsFor, state_of}
-use Rattle.gaz_hub.specs.Laws.{AllSound, EveryAnswerOver, EveryRunFromOver, EveryRunOver, EverySettledRunFromOver, EverySettledRunOver}
-use Rattle.gaz_hub.specs.Standing.{Leads, Register, judge_one, ready}
+use Rattle.gaz_hub.specs.Hubs.{MayHave, state_of}
+use Rattle.gaz_hub.specs.Laws.{AllSound, EveryAnswerOver, EveryRunFromOver, EverySettledRunFromOver}
+use Rattle.gaz_hub.specs.Standing.{Leads, judge_one, ready}
 use Rattle.gaz_hub.specs.Step.{Door, blocks}
 use Rattle.gaz_hub.proofs.Advancing.{added_is}
 use Rattle.gaz_hub.proofs.Answers.{every_answer_holds}
 use Rattle.gaz_hub.proofs.Leading.{follows_itself}
 use Rattle.gaz_hub.proofs.Orders.{ready_gives}
-use Rattle.gaz_hub.proofs.Runs.{abides_after, every_run_from_holds, every_settled_run_from_holds}
+use Rattle.gaz_hub.proofs.Runs.{every_run_from_holds, every_settled_run_from_holds}
 
 -- ---- over any keeper
 
@@ -30,9 +30,6 @@ may_begin d k files board =
       known = λ p h. absurd (true≢false (sym h ∙ ap (λ (F : Received). is_some (map.get F p)) files ∙ ap is_some (map.get-empty pair_cmp p)));
       partial = follows_itself (blocks d) k.files empty_board k.board board;
     }
-
-begins_so : (d : Door) (old : Seen) → old.stands → old.content ≡ empty_content → StandsFor d old
-begins_so d old stood e = (stood, may_begin d old.content (ap (λ (k : Content). k.files) e) (ap (λ (k : Content). k.board) e))
 
 pub every_run_from_over : {K : Type 0} (seen : K → Seen) → EveryRunFromOver seen
 every_run_from_over seen d old new commands responses was fine r =
@@ -59,22 +56,13 @@ pub every_answer_over : {K : Type 0} (seen : K → Seen) → EveryAnswerOver see
 every_answer_over seen d old new commands responses was fine r =
     every_answer_holds d (state_of (seen old).content) (state_of (seen new).content) commands responses was.1.partial (r.run was fine)
 
-pub every_run_over : {K : Type 0} (seen : K → Seen) → EveryRunOver seen
-every_run_over seen d old new commands responses stood empty fine r =
-    let k = every_run_from_over seen d old new commands responses (begins_so d (seen old) stood empty) fine r in
-    record { stands = k.stands.0; abides = abides_after d _ commands responses _ (ap state_of empty) k.abides }
-
-pub every_settled_run_over : {K : Type 0} (seen : K → Seen) → EverySettledRunOver seen
-every_settled_run_over seen d old new commands responses command response stood empty fine r settled =
-    every_settled_run_from_over seen d old new commands responses command response (begins_so d (seen old) stood empty) fine r settled
-
 -- ---- the views on a board
 
 names_in : (bytes : List ℕ) (c v : ℕ) (r : Reading) → reading bytes c v ≡ r → NamesOthers c r
 names_in bytes c v (Good f) e = (bases-rise bytes c v f e).others
 names_in bytes c v (Bad place rule) e = λ k d l. absurd (omega arith)
 
-one_sound : (G : Register) (F : Received) (B : Board) (c : ℕ) → AreDisjoint G → IsSoundBoard G B → ready F B c ≡ true → IsSoundBoard G (judge_one G F B c)
+one_sound : (G : Owners) (F : Received) (B : Board) (c : ℕ) → AreDisjoint G → IsSoundBoard G B → ready F B c ≡ true → IsSoundBoard G (judge_one G F B c)
 one_sound G F B c apart sound h =
     let is = ready_gives F B c h in
     let volume = reached B c + 1 in
@@ -82,7 +70,7 @@ one_sound G F B c apart sound h =
     subst (IsSoundBoard G) (added_is G F B c r (ap (option_map (λ bytes. reading bytes c volume)) is.came))
     (boards_stay_sound_holds.after_file G B c r apart (names_in is.bytes c volume r refl) sound)
 
-leads_sound : (G : Register) (F : Received) (B : Board) (order : List ℕ) (C : Board) → AreDisjoint G → IsSoundBoard G B → Leads G F B order C → IsSoundBoard G C
+leads_sound : (G : Owners) (F : Received) (B : Board) (order : List ℕ) (C : Board) → AreDisjoint G → IsSoundBoard G B → Leads G F B order C → IsSoundBoard G C
 leads_sound G F B [] C apart sound e = subst (IsSoundBoard G) (sym e) sound
 leads_sound G F B (c ∷ order) C apart sound l = leads_sound G F (judge_one G F B c) order C apart (one_sound G F B c apart sound l.0) l.1
 

@@ -19,7 +19,7 @@ use Rattle.gaz_rules.specs.Judging.{bases_of}
 use Rattle.gaz_extract.specs.Readings.{Looks}
 use Rattle.gaz_extract.proofs.Readings.{if_ok}
 use Rattle.gaz_hub.specs.Outcomes.{first_unreached, wants, wants_as}
-use Rattle.gaz_hub.specs.Settling.{IsNext, IsReadAs, wanted_by}
+use Rattle.gaz_hub.specs.Settling.{IsNext, IsReadAs, want_of}
 use Rattle.gaz_hub.specs.Standing.{next_reading, ready}
 use Rattle.gaz_hub.specs.declared.looking.Next.{Next}
 use Rattle.gaz_hub.specs.declared.looking.Next.TheVariants as next
@@ -148,7 +148,7 @@ ready_wants F B c r h e =
     first_part true b e = refl
     first_part false b e = cc
 
-pub wanted_as : (F : Received) (B : Board) (c : ℕ) (n : Next) → IsNext F B c n → wanted_by n ≡ wants F B c
+pub wanted_as : (F : Received) (B : Board) (c : ℕ) (n : Next) → IsNext F B c n → want_of n ≡ wants F B c
 wanted_as F B c (next.Good volume contents) h = sym (ready_wants F B c _ h.1.0 h.1.1)
 wanted_as F B c (next.Bad volume place rule) h = sym (ready_wants F B c _ h.1.0 h.1.1)
 wanted_as F B c (next.Waits d volume) h = sym h.1

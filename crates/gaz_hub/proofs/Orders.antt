@@ -11,19 +11,20 @@ use Rattle.std.specs.List.{list_any}
 use Rattle.std.specs.Ordering.{nat_cmp, eq_by_cmp}
 use Rattle.std.specs.Cmp.{Equal-is}
 use Rattle.std.specs.FinMap as map
+use Rattle.gaz_register.specs.Registers.{Owners}
 use Rattle.gaz_chains.specs.Chains.{IsPrefixOf}
 use Rattle.gaz_views.specs.View.{empty_view}
 use Rattle.gaz_changefile.specs.Reading.{Reading, reading}
 use Rattle.gaz_rules.specs.Judging.{bases_of, judge}
 use Rattle.gaz_keeper.specs.Board.{Judgement, Board, empty_board, reached, view_after}
-use Rattle.gaz_keeper.specs.Received.{Received, pair_cmp}
-use Rattle.gaz_hub.specs.Standing.{HasAllOf, Register, ready, with_next, judge_one, round, rounds, standing, Leads, NothingReady, AnyOrder, MoreFiles}
+use Rattle.gaz_keeper.specs.Received.{HasAllOf, Received, pair_cmp}
+use Rattle.gaz_hub.specs.Standing.{ready, with_next, judge_one, round, rounds, standing, Leads, NothingReady, AnyOrder, MoreFiles}
 use Rattle.gaz_rules.specs.Bases.{basis_views, are_reached}
 use Rattle.gaz_changefile.specs.declared.change.Basis.{Basis}
 use Rattle.gaz_hub.proofs.Prefixes.{prefix_length, prefix_same, prefix_push, get_front, get_front_plain, get_pushed, both_parts, joined, gives_some, at_some, count, count_all, one_more_counted, any_of_found, some_of_any}
 
 -- the judgement of a file that reads so and comes after this volume of its custodian
-abbrev pub judgement_after : Register → Board → ℕ → ℕ → Reading → Judgement
+abbrev pub judgement_after : Owners → Board → ℕ → ℕ → Reading → Judgement
 judgement_after G B c volume r = judge c (G c) (view_after B c volume) (basis_views B (bases_of r)) r
 
 -- each custodian's list in C goes on from that in B
@@ -56,7 +57,7 @@ basis_views_stay B C below (d ∷ bases) h =
     λ i. (d.custodian, one i) ∷ rest i
 
 -- a judgement rests on what was there, and on nothing that comes later
-pub judgement_stays : (G : Register) (B C : Board) → Below B C → (c volume : ℕ) (r : Reading) → volume ≤ reached B c → are_reached B (bases_of r) ≡ true → judgement_after G C c volume r ≡ judgement_after G B c volume r
+pub judgement_stays : (G : Owners) (B C : Board) → Below B C → (c volume : ℕ) (r : Reading) → volume ≤ reached B c → are_reached B (bases_of r) ≡ true → judgement_after G C c volume r ≡ judgement_after G B c volume r
 judgement_stays G B C below c volume r within rests =
     let own = view_stays B C below c volume within in
     let others = basis_views_stay B C below (bases_of r) rests in
@@ -82,40 +83,40 @@ ready_from F B c is =
     (at_some (map.get F (c, reached B c + 1)) is.bytes (λ bytes. reading bytes c (reached B c + 1)) (λ r. are_reached B (bases_of r)) false is.came ∙ is.rests)
 
 -- the judgement that a ready custodian gets
-abbrev pub next : Register → (F : Received) (B : Board) (c : ℕ) → IsReady F B c → Judgement
+abbrev pub next : Owners → (F : Received) (B : Board) (c : ℕ) → IsReady F B c → Judgement
 next G F B c is = judgement_after G B c (reached B c) (reading is.bytes c (reached B c + 1))
 
-pub with_next_is : (G : Register) (F : Received) (B : Board) (c : ℕ) (is : IsReady F B c) → with_next G F B c ≡ B c ++ next G F B c is ∷ []
+pub with_next_is : (G : Owners) (F : Received) (B : Board) (c : ℕ) (is : IsReady F B c) → with_next G F B c ≡ B c ++ next G F B c is ∷ []
 with_next_is G F B c is =
     at_some (map.get F (c, reached B c + 1)) is.bytes (λ bytes. reading bytes c (reached B c + 1)) (λ r. B c ++ judgement_after G B c (reached B c) r ∷ []) (B c) is.came
 
 -- ---- boards each of whose judgements is that of its file on the board itself
 
-pub record Entry (G : Register) (F : Received) (B : Board) (c n : ℕ) : Type 0 where
+pub record Entry (G : Owners) (F : Received) (B : Board) (c n : ℕ) : Type 0 where
   pub bytes : List ℕ
   pub in_range : n + 1 ≤ 999999
   pub came : map.get F (c, n + 1) ≡ Some bytes
   pub rests : are_reached B (bases_of (reading bytes c (n + 1))) ≡ true
   pub is : slice_get (B c) n ≡ Some (judgement_after G B c n (reading bytes c (n + 1)))
 
-pub record IsLawful (G : Register) (F : Received) (B : Board) : Type 0 where
+pub record IsLawful (G : Owners) (F : Received) (B : Board) : Type 0 where
   pub each : (c n : ℕ) → n < reached B c → Entry G F B c n
 
-pub empty_lawful : (G : Register) (F : Received) → IsLawful G F empty_board
+pub empty_lawful : (G : Owners) (F : Received) → IsLawful G F empty_board
 empty_lawful G F = record { each = λ c n h. absurd (omega arith) }
 
 -- from B to C some of the custodians that are ready in B got their next judgement
-pub record Moved (G : Register) (F : Received) (B C : Board) : Type 0 where
+pub record Moved (G : Owners) (F : Received) (B C : Board) : Type 0 where
   pub each : (c : ℕ) → (C c ≡ B c) ⊎ ((ready F B c ≡ true) × (C c ≡ with_next G F B c))
 
-pub moved_below : (G : Register) (F : Received) (B C : Board) → Moved G F B C → Below B C
+pub moved_below : (G : Owners) (F : Received) (B C : Board) → Moved G F B C → Below B C
 moved_below G F B C moved c =
     elim (moved.each c) [
       | inl same ↦ ([], append-nil (B c) ∙ sym same)
       | inr m ↦ let is = ready_gives F B c m.0 in (next G F B c is ∷ [], sym (with_next_is G F B c is) ∙ sym m.1)
     ]
 
-old_entry : (G : Register) (F : Received) (B C : Board) → Below B C → (c n : ℕ) → n < reached B c → Entry G F B c n → Entry G F C c n
+old_entry : (G : Owners) (F : Received) (B C : Board) → Below B C → (c n : ℕ) → n < reached B c → Entry G F B c n → Entry G F C c n
 old_entry G F B C below c n h e =
     record {
       bytes = e.bytes;
@@ -127,7 +128,7 @@ old_entry G F B C below c n h e =
           ∙ ap Some (sym (judgement_stays G B C below c n (reading e.bytes c (n + 1)) (omega arith) e.rests));
     }
 
-new_entry : (G : Register) (F : Received) (B C : Board) (c : ℕ) (is : IsReady F B c) → Below B C → C c ≡ B c ++ next G F B c is ∷ [] → Entry G F C c (reached B c)
+new_entry : (G : Owners) (F : Received) (B C : Board) (c : ℕ) (is : IsReady F B c) → Below B C → C c ≡ B c ++ next G F B c is ∷ [] → Entry G F C c (reached B c)
 new_entry G F B C c is below at_c =
     record {
       bytes = is.bytes;
@@ -139,7 +140,7 @@ new_entry G F B C c is below at_c =
           ∙ ap Some (sym (judgement_stays G B C below c (reached B c) (reading is.bytes c (reached B c + 1)) (omega arith) is.rests));
     }
 
-pub moved_lawful : (G : Register) (F : Received) (B C : Board) → Moved G F B C → IsLawful G F B → IsLawful G F C
+pub moved_lawful : (G : Owners) (F : Received) (B C : Board) → Moved G F B C → IsLawful G F B → IsLawful G F C
 moved_lawful G F B C moved lawful =
     record {
       each = λ c n h.
@@ -160,7 +161,7 @@ moved_lawful G F B C moved lawful =
 
 -- ---- what no closed board can be short of
 
-pub moved_stays_below : (G : Register) (F bigger : Received) (B B' C : Board) → HasAllOf bigger F → IsLawful G bigger C → NothingReady bigger C → Moved G F B B' → Below B C → Below B' C
+pub moved_stays_below : (G : Owners) (F bigger : Received) (B B' C : Board) → HasAllOf bigger F → IsLawful G bigger C → NothingReady bigger C → Moved G F B B' → Below B C → Below B' C
 moved_stays_below G F bigger B B' C all lawful closed moved below c =
     elim (moved.each c) [
       | inl same ↦ subst (λ js. IsPrefixOf js (C c)) (sym same) (below c)
@@ -194,7 +195,7 @@ moved_stays_below G F bigger B B' C all lawful closed moved below c =
 
 -- ---- one at a time, and in rounds
 
-pub judge_one_moved : (G : Register) (F : Received) (B : Board) (c : ℕ) → ready F B c ≡ true → Moved G F B (judge_one G F B c)
+pub judge_one_moved : (G : Owners) (F : Received) (B : Board) (c : ℕ) → ready F B c ≡ true → Moved G F B (judge_one G F B c)
 judge_one_moved G F B c h =
     record {
       each = λ d. elim (eqb d c) as (λ b. eqb d c ≡ b → (cond b (with_next G F B d) (B d) ≡ B d) ⊎ ((ready F B d ≡ true) × (cond b (with_next G F B d) (B d) ≡ with_next G F B d))) [
@@ -203,7 +204,7 @@ judge_one_moved G F B c h =
       ] refl;
     }
 
-round_moved : (G : Register) (F : Received) (B : Board) → Moved G F B (round G F B)
+round_moved : (G : Owners) (F : Received) (B : Board) → Moved G F B (round G F B)
 round_moved G F B =
     record {
       each = λ c. elim (ready F B c) as (λ b. ready F B c ≡ b → (cond b (with_next G F B c) (B c) ≡ B c) ⊎ ((ready F B c ≡ true) × (cond b (with_next G F B c) (B c) ≡ with_next G F B c))) [
@@ -212,25 +213,25 @@ round_moved G F B =
       ] refl;
     }
 
-pub leads_lawful : (G : Register) (F : Received) (B : Board) (order : List ℕ) (C : Board) → Leads G F B order C → IsLawful G F B → IsLawful G F C
+pub leads_lawful : (G : Owners) (F : Received) (B : Board) (order : List ℕ) (C : Board) → Leads G F B order C → IsLawful G F B → IsLawful G F C
 leads_lawful G F B [] C e lawful = subst (IsLawful G F) (sym e) lawful
 leads_lawful G F B (c ∷ order) C l lawful =
     leads_lawful G F (judge_one G F B c) order C l.1 (moved_lawful G F B (judge_one G F B c) (judge_one_moved G F B c l.0) lawful)
 
-pub leads_below : (G : Register) (F bigger : Received) (B : Board) (order : List ℕ) (C D : Board) → HasAllOf bigger F → IsLawful G bigger D → NothingReady bigger D → Leads G F B order C → Below B D → Below C D
+pub leads_below : (G : Owners) (F bigger : Received) (B : Board) (order : List ℕ) (C D : Board) → HasAllOf bigger F → IsLawful G bigger D → NothingReady bigger D → Leads G F B order C → Below B D → Below C D
 leads_below G F bigger B [] C D all lawful closed e below = subst (λ X. Below X D) (sym e) below
 leads_below G F bigger B (c ∷ order) C D all lawful closed l below =
     leads_below G F bigger (judge_one G F B c) order C D all lawful closed l.1
     (moved_stays_below G F bigger B (judge_one G F B c) D all lawful closed (judge_one_moved G F B c l.0) below)
 
-rounds_lawful : (G : Register) (F : Received) (n : ℕ) → IsLawful G F (rounds G F n empty_board)
+rounds_lawful : (G : Owners) (F : Received) (n : ℕ) → IsLawful G F (rounds G F n empty_board)
 rounds_lawful G F zero = empty_lawful G F
 rounds_lawful G F (suc n) = moved_lawful G F (rounds G F n empty_board) _ (round_moved G F (rounds G F n empty_board)) (rounds_lawful G F n)
 
 empty_below : (C : Board) → Below empty_board C
 empty_below C c = (C c, refl)
 
-rounds_below : (G : Register) (F bigger : Received) (D : Board) → HasAllOf bigger F → IsLawful G bigger D → NothingReady bigger D → (n : ℕ) → Below (rounds G F n empty_board) D
+rounds_below : (G : Owners) (F bigger : Received) (D : Board) → HasAllOf bigger F → IsLawful G bigger D → NothingReady bigger D → (n : ℕ) → Below (rounds G F n empty_board) D
 rounds_below G F bigger D all lawful closed zero = empty_below D
 rounds_below G F bigger D all lawful closed (suc n) =
     moved_stays_below G F bigger (rounds G F n empty_board) _ D all lawful closed (round_moved G F (rounds G F n empty_board)) (rounds_below G F bigger D all lawful closed n)
@@ -250,7 +251,7 @@ tied : (k x : ℕ × ℕ) → eq_by_cmp pair_cmp k x ≡ true → k ≡ x
 tied k x e = exact_pairs nat_cmp nat_cmp exact_unsigned exact_unsigned k x ((Equal-is (pair_cmp k x)).0 e)
 
 -- a move that judges the next file of one that is ready judges one more
-pub move_counts : (G : Register) (F : Received) (B C : Board) (c : ℕ) → Moved G F B C → ready F B c ≡ true → C c ≡ with_next G F B c → done_count F B + 1 ≤ done_count F C
+pub move_counts : (G : Owners) (F : Received) (B C : Board) (c : ℕ) → Moved G F B C → ready F B c ≡ true → C c ≡ with_next G F B c → done_count F B + 1 ≤ done_count F C
 move_counts G F B C c moved h at_c =
     let is = ready_gives F B c h in
     let below = moved_below G F B C moved in
@@ -264,11 +265,11 @@ move_counts G F B C c moved h at_c =
     not_yet n = elim (leb_tells (n + 1) n) [ inl h ↦ absurd (omega arith) | inr h ↦ h.0 ]
 
 -- a round in which one is ready judges one more
-round_counts : (G : Register) (F : Received) (B : Board) (c : ℕ) → ready F B c ≡ true → done_count F B + 1 ≤ done_count F (round G F B)
+round_counts : (G : Owners) (F : Received) (B : Board) (c : ℕ) → ready F B c ≡ true → done_count F B + 1 ≤ done_count F (round G F B)
 round_counts G F B c h = move_counts G F B (round G F B) c (round_moved G F B) h (ap (λ b. cond b (with_next G F B c) (B c)) h)
 
 -- so does the judgement of that one
-pub one_counts : (G : Register) (F : Received) (B : Board) (c : ℕ) → ready F B c ≡ true → done_count F B + 1 ≤ done_count F (judge_one G F B c)
+pub one_counts : (G : Owners) (F : Received) (B : Board) (c : ℕ) → ready F B c ≡ true → done_count F B + 1 ≤ done_count F (judge_one G F B c)
 one_counts G F B c h =
     move_counts G F B (judge_one G F B c) c (judge_one_moved G F B c h) h (ap (λ b. cond b (with_next G F B c) (B c)) (eq-eqb c c refl))
 
@@ -277,7 +278,7 @@ pub done_at_most : (F : Received) (B : Board) → done_count F B ≤ map.len F
 done_at_most F B = omega (arith, count_all (λ (e : (ℕ × ℕ) × List ℕ). is_done B e.0) (map.entries F), map.len-entries F)
 
 -- where nothing is ready a round changes nothing
-round_rests : (G : Register) (F : Received) (B : Board) → NothingReady F B → round G F B ≡ B
+round_rests : (G : Owners) (F : Received) (B : Board) → NothingReady F B → round G F B ≡ B
 round_rests G F B closed = fun_ext (λ c. ap (λ b. cond b (with_next G F B c) (B c)) (closed c))
 
 pub none_ready : (F : Received) (B : Board) → list_any (λ (e : (ℕ × ℕ) × List ℕ). ready F B e.0.0) (map.entries F) ≡ false → NothingReady F B
@@ -291,7 +292,7 @@ none_ready F B none c =
     ] refl
 
 -- where one is still ready, each round judged one
-busy_counts : (G : Register) (F : Received) (n c : ℕ) → ready F (rounds G F n empty_board) c ≡ true → n ≤ done_count F (rounds G F n empty_board)
+busy_counts : (G : Owners) (F : Received) (n c : ℕ) → ready F (rounds G F n empty_board) c ≡ true → n ≤ done_count F (rounds G F n empty_board)
 busy_counts G F zero c h = omega arith
 busy_counts G F (suc n) c h =
     let B = rounds G F n empty_board in
@@ -306,7 +307,7 @@ busy_counts G F (suc n) c h =
           absurd (true≢false (sym h ∙ ap (λ X. ready F X c) (round_rests G F B closed) ∙ closed c))
     ] refl
 
-rounds_closed : (G : Register) (F : Received) → NothingReady F (rounds G F (map.len F) empty_board)
+rounds_closed : (G : Owners) (F : Received) → NothingReady F (rounds G F (map.len F) empty_board)
 rounds_closed G F c =
     let B = rounds G F (map.len F) empty_board in
     elim (ready F B c) as (λ b. ready F B c ≡ b → b ≡ false) [
@@ -321,15 +322,15 @@ rounds_closed G F c =
 
 -- ---- the laws
 
-pub standing_lawful : (G : Register) (F : Received) → IsLawful G F (standing G F)
+pub standing_lawful : (G : Owners) (F : Received) → IsLawful G F (standing G F)
 unfolding standing
 standing_lawful G F = rounds_lawful G F (map.len F)
 
-pub standing_closed : (G : Register) (F : Received) → NothingReady F (standing G F)
+pub standing_closed : (G : Owners) (F : Received) → NothingReady F (standing G F)
 unfolding standing
 standing_closed G F = rounds_closed G F
 
-pub standing_below : (G : Register) (F bigger : Received) (D : Board) → HasAllOf bigger F → IsLawful G bigger D → NothingReady bigger D → Below (standing G F) D
+pub standing_below : (G : Owners) (F bigger : Received) (D : Board) → HasAllOf bigger F → IsLawful G bigger D → NothingReady bigger D → Below (standing G F) D
 unfolding standing
 standing_below G F bigger D all lawful closed = rounds_below G F bigger D all lawful closed (map.len F)
 

@@ -17,11 +17,12 @@ use Rattle.gaz_keeper.specs.Board.{Board, last_view, reached}
 use Rattle.gaz_keeper.specs.Received.{Received}
 use Rattle.gaz_views.specs.View.{holds}
 use Rattle.gaz_views.specs.Words.{first_of}
+use Rattle.gaz_hub.specs.Chains.{holder_from}
 use Rattle.gaz_hub.specs.Became.{became}
-use Rattle.gaz_hub.specs.Owners.{OwnersAlone, can_have, holder_from, said_by_known, told_by_holder}
+use Rattle.gaz_hub.specs.Owners.{OwnersAlone, can_have, said_by_known, told_by_holder}
 use Rattle.gaz_hub.specs.Standing.{IsPartial}
 use Rattle.gaz_hub.proofs.ChainFine.{one_chain_holds}
-use Rattle.gaz_hub.proofs.ChainGrowth.{chains_are_short_hold, finds_owner}
+use Rattle.gaz_hub.proofs.ChainGrowth.{finds_holders_holds}
 use Rattle.gaz_hub.proofs.ChainNobody.{unallotted_stay_holds}
 use Rattle.gaz_hub.proofs.OwnNumbers.{all_own_holds}
 
@@ -130,7 +131,7 @@ module _ (register : RegisterValue) (F : Received) (B : Board) (uprn : ℕ) (is 
   told_owned a own =
       let one = one_chain_holds register F B a uprn is own partial in
       let h = holder one.chain one.offered in
-      let finds : holder_from B uprn a ≡ h = finds_owner register F B a uprn is own partial one.chain one.offered one.is 10000 (chains_are_short_hold F B a uprn one.chain one.offered one.is) in
+      let finds : holder_from B uprn a ≡ h = finds_holders_holds register F B a uprn one.chain one.offered is own partial one.is in
       let told = told_held h (λ c has. (one.holds c).0 (can_say c has)) in
       told
       ∙ sym (ap (λ o. option_or (says a) (option_and_then (said_by_known B register uprn) o)) finds

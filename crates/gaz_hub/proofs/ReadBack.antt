@@ -20,7 +20,7 @@ use Rattle.gaz_changefile.specs.Reading.{Bad, Good, Reading, reading}
 use Rattle.gaz_changefile.specs.declared.action.Action.{Action}
 use Rattle.gaz_changefile.specs.declared.action.Action.TheVariants.{Delete, Insert, Update}
 use Rattle.gaz_changefile.specs.declared.change.Change.{Change}
-use Rattle.gaz_register.specs.Registers.{Blocks}
+use Rattle.gaz_register.specs.Registers.{Blocks, Owners}
 use Rattle.gaz_views.proofs.Emptiness.{get_none}
 use Rattle.gaz_views.proofs.Pages.{of_rows}
 use Rattle.gaz_views.specs.View.{View, empty_view, with_item, without_key}
@@ -34,7 +34,7 @@ use Rattle.gaz_keeper.specs.Received.{Received}
 use Rattle.gaz_extract.proofs.ReadBack.{extracts_back}
 use Rattle.gaz_extract.specs.Laws.{HasItems}
 use Rattle.gaz_hub.specs.ReadBack.{AllAllowed, AllGivenBack, BoardsReadBack, HasAllowed}
-use Rattle.gaz_hub.specs.Standing.{Leads, Register, judge_one, ready}
+use Rattle.gaz_hub.specs.Standing.{Leads, judge_one, ready}
 use Rattle.gaz_hub.proofs.Advancing.{added_is}
 use Rattle.gaz_hub.proofs.Headline.{all_sound_holds}
 use Rattle.gaz_hub.proofs.Orders.{ready_gives}
@@ -100,7 +100,7 @@ allowed_judged own v others bytes c volume (Bad place rule) e was = was
 IsAllowedBoard : Board → Type 0
 IsAllowedBoard B = (c volume : ℕ) → HasAllowed (view_after B c volume)
 
-one_allowed : (G : Register) (F : Received) (B : Board) (c : ℕ) → IsAllowedBoard B → ready F B c ≡ true → IsAllowedBoard (judge_one G F B c)
+one_allowed : (G : Owners) (F : Received) (B : Board) (c : ℕ) → IsAllowedBoard B → ready F B c ≡ true → IsAllowedBoard (judge_one G F B c)
 unfolding IsAllowedBoard
 one_allowed G F B c was h =
     let is = ready_gives F B c h in
@@ -110,7 +110,7 @@ one_allowed G F B c was h =
     subst IsAllowedBoard (added_is G F B c r (ap (option_map (λ bytes. reading bytes c volume)) is.came))
     (on_more (λ d. HasAllowed) (λ d. allowed_empty) B c (judged_on (G c) B c r) was good)
 
-leads_allowed : (G : Register) (F : Received) (B : Board) (order : List ℕ) (C : Board) → IsAllowedBoard B → Leads G F B order C → IsAllowedBoard C
+leads_allowed : (G : Owners) (F : Received) (B : Board) (order : List ℕ) (C : Board) → IsAllowedBoard B → Leads G F B order C → IsAllowedBoard C
 leads_allowed G F B [] C was e = subst IsAllowedBoard (sym e) was
 leads_allowed G F B (c ∷ order) C was l = leads_allowed G F (judge_one G F B c) order C (one_allowed G F B c was l.0) l.1
 

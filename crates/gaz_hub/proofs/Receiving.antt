@@ -3,7 +3,7 @@ use Rattle.std.proofs.Common.{◌≡◌, inl, inr, ℕ, true, false, cond, true�
 use Rattle.std.specs.Prelude.{None, Some}
 use Rattle.std.specs.FinMap as map
 use Rattle.gaz_keeper.proofs.Pairs.{pairs_total, there_now}
-use Rattle.gaz_keeper.specs.Received.{Received, with_file}
+use Rattle.gaz_keeper.specs.Received.{HasAllOf, Received, with_file}
 use Rattle.gaz_keeper.specs.Keeper.{Content}
 use Rattle.gaz_hub.specs.Runs.{Run, same_pair}
 use Rattle.gaz_hub.specs.Step.{Command, Door, HubState, Pose, Replied, Response, Step, Submit, Submitted}
@@ -11,7 +11,6 @@ use Rattle.gaz_hub.specs.declared.answer.Answer.TheVariants.{New, Repeat, Taken,
 use Rattle.gaz_hub.specs.declared.refusal.Refusal.TheVariants as refusal
 use Rattle.gaz_hub.proofs.Answers.{received_then}
 use Rattle.gaz_hub.proofs.Steps.{goes, has_all_with, pairs_same}
-use Rattle.gaz_hub.specs.Standing.{HasAllOf}
 use Rattle.gaz_hub.specs.Stops.{HasAllTold, HasReceived, HasTold, IsLeftBy, IsLeftOnceTold, IsLeftWith, is_taken_in}
 
 -- ---- what is received stays

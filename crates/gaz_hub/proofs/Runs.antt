@@ -3,10 +3,11 @@ use Rattle.std.proofs.Common.{◌≡◌, ℕ, true, List, [], ◌∷◌, ◌++�
 use Rattle.std.specs.Prelude.{Option, Some, None}
 use Rattle.std.specs.Option.{option_or}
 use Rattle.std.specs.FinMap as map
+use Rattle.gaz_register.specs.Registers.{Owners}
 use Rattle.gaz_chains.specs.Chains.{IsPrefixOf}
 use Rattle.gaz_keeper.specs.Board.{Board, empty_board}
 use Rattle.gaz_keeper.specs.Received.{Received, pair_cmp}
-use Rattle.gaz_hub.specs.Standing.{Follows, IsPartial, NothingReady, standing, Leads, judge_one, Register}
+use Rattle.gaz_hub.specs.Standing.{Follows, IsPartial, NothingReady, standing, Leads, judge_one}
 use Rattle.gaz_hub.specs.Outcomes.{outcome}
 use Rattle.gaz_hub.specs.Step.{Command, Door, HubState, Response, Step, blocks, new_hub}
 use Rattle.gaz_hub.specs.Runs.{Run, is_settled, first_received, Abides, AbidesFrom, EveryRun, EveryRunFrom, EverySettledRun, EverySettledRunFrom, EveryRepeat, JudgementsStay, EqualReceived}
@@ -91,12 +92,12 @@ every_settled_run_holds d commands responses command response hub r y =
 
 -- ---- one step more
 
-leads_below : (G : Register) (F : Received) (B : Board) (order : List ℕ) (C : Board) → Leads G F B order C → (c : ℕ) → IsPrefixOf (B c) (C c)
+leads_below : (G : Owners) (F : Received) (B : Board) (order : List ℕ) (C : Board) → Leads G F B order C → (c : ℕ) → IsPrefixOf (B c) (C c)
 leads_below G F B [] C e c = subst (λ X. IsPrefixOf (B c) (X c)) (sym e) (prefix_refl (B c))
 leads_below G F B (d ∷ order) C l c =
     prefix_trans (B c) (judge_one G F B d c) (C c) (moved_below G F B (judge_one G F B d) (judge_one_moved G F B d l.0) c) (leads_below G F (judge_one G F B d) order C l.1 c)
 
-pub follows_below : (G : Register) (F : Received) (B C : Board) → Follows G F B C → (c : ℕ) → IsPrefixOf (B c) (C c)
+pub follows_below : (G : Owners) (F : Received) (B C : Board) → Follows G F B C → (c : ℕ) → IsPrefixOf (B c) (C c)
 follows_below G F B C f = leads_below G F B f.order C f.leads
 
 pub judgements_stay_holds : JudgementsStay

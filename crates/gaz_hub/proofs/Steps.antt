@@ -5,8 +5,8 @@ use Rattle.std.specs.Option.{option_or}
 use Rattle.std.specs.Cmp.{Equal-is}
 use Rattle.std.specs.FinMap as map
 use Rattle.gaz_keeper.specs.Board.{Board}
-use Rattle.gaz_keeper.specs.Received.{Received, pair_cmp, with_file}
-use Rattle.gaz_hub.specs.Standing.{HasAllOf, Follows, NothingReady}
+use Rattle.gaz_keeper.specs.Received.{HasAllOf, Received, pair_cmp, with_file}
+use Rattle.gaz_hub.specs.Standing.{Follows, NothingReady}
 use Rattle.gaz_hub.specs.Step.{Command, Door, HubState, NotReceived, Pose, Refuses, Replied, Response, Settles, Step, Submit, Submits, Submitted, Told, TurnedAway, WasAsked, blocks, file_refusal}
 use Rattle.gaz_hub.specs.Runs.{accepted, is_settled, same_pair}
 use Rattle.gaz_hub.specs.declared.answer.Answer.{Answer}

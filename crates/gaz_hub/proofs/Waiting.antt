@@ -18,7 +18,7 @@ use Rattle.std.specs.Ordering.{eq_by_cmp, nat_cmp}
 use Rattle.gaz_views.proofs.Trees.{get_tree}
 use Rattle.gaz_changefile.specs.Reading.{Reading, reading}
 use Rattle.gaz_changefile.specs.declared.change.Basis.{Basis}
-use Rattle.gaz_register.specs.Registers.{CustodianValue, RegisterValue, knows}
+use Rattle.gaz_register.specs.Registers.{CustodianValue, Owners, RegisterValue, knows}
 use Rattle.gaz_rules.specs.Bases.{are_reached}
 use Rattle.gaz_rules.specs.Judging.{bases_of}
 use Rattle.gaz_keeper.proofs.Pairs.{pairs_exact, pairs_total}
@@ -26,7 +26,7 @@ use Rattle.gaz_keeper.specs.Board.{Board, reached}
 use Rattle.gaz_keeper.specs.Received.{Received, pair_cmp, with_file}
 use Rattle.gaz_hub.specs.Outcomes.{first_unreached, wants, wants_as}
 use Rattle.gaz_hub.specs.Runs.{same_pair}
-use Rattle.gaz_hub.specs.Standing.{Register, judge_one, next_reading, ready, with_next}
+use Rattle.gaz_hub.specs.Standing.{judge_one, next_reading, ready, with_next}
 use Rattle.gaz_hub.specs.Waiting.{Remembered, Rests, is_among, waiting_for, wanted_by, with_coming, with_judged, with_nothing_wanted, with_waiter}
 use Rattle.gaz_hub.proofs.Orders.{next, ready_gives, with_next_is}
 use Rattle.gaz_hub.proofs.Steps.{pairs_same}
@@ -230,7 +230,7 @@ module _ (board later : Board) (c : ℕ) (more : reached later c ≡ reached boa
       ] refl never
 
 -- the board after the next file of a custodian that is ready was judged
-module _ (register : Register) (files : Received) (board : Board) (c : ℕ) (is_ready : ready files board c ≡ true) where
+module _ (register : Owners) (files : Received) (board : Board) (c : ℕ) (is_ready : ready files board c ≡ true) where
   abbrev pub later : Board
   later = judge_one register files board c
 

@@ -11,7 +11,7 @@ use Rattle.gaz_views.specs.Custody.{hop_of}
 use Rattle.gaz_views.specs.View.{custody_at, empty_view, with_adoption, with_release}
 use Rattle.gaz_views.specs.declared.custody.Custody.{Custody}
 use Rattle.gaz_views.specs.declared.custody.Custody.TheVariants.{Adopted, Released}
-use Rattle.gaz_hub.specs.Owners.{holder_from}
+use Rattle.gaz_hub.specs.Chains.{holder_from}
 use Rattle.gaz_hub.specs.WorkedChains.{WorkedChains, gone_over, offered}
 use Rattle.gaz_hub.proofs.Following.{found_here, found_next, found_nobody}
 use Rattle.gaz_hub.proofs.ChainFine.{none_at_first}

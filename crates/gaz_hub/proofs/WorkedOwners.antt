@@ -13,8 +13,9 @@ use Rattle.gaz_records.specs.declared.key.Key.TheVariants as key
 use Rattle.gaz_keeper.specs.Board.{Board, last_view}
 use Rattle.gaz_keeper.specs.Keeper.{empty_content}
 use Rattle.gaz_views.specs.View.{custody_at, empty_view, holds, with_release}
+use Rattle.gaz_hub.specs.Chains.{holder_from}
 use Rattle.gaz_hub.specs.Hubs.{door_of}
-use Rattle.gaz_hub.specs.Owners.{can_have, holder_from, said_by_known, told_by_holder}
+use Rattle.gaz_hub.specs.Owners.{can_have, said_by_known, told_by_holder}
 use Rattle.gaz_hub.specs.WorkedChains.{gone_over, offered}
 use Rattle.gaz_hub.specs.WorkedOwners.{WorkedOwners, strayed}
 use Rattle.gaz_hub.proofs.ChainFine.{none_at_first}

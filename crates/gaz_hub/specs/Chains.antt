@@ -1,17 +1,17 @@
 -- What holds of the chain of a number on partial boards: the custodians that had it in turn.
-use Rattle.std.specs.Prelude.{◌≡◌, ◌≤◌, ◌↔◌, ℕ, true, false, length, List, [], Option, Some, None}
+use Rattle.std.specs.Prelude.{◌≡◌, ◌≤◌, ◌↔◌, ◌==◌, ℕ, true, false, length, List, [], Option}
+use Rattle.std.specs.Prelude.{Some, None}
 use Rattle.gaz_chains.specs.Chains.{IsChain, IsPrefixOf, holder}
 use Rattle.gaz_chains.specs.Events.{Has}
 use Rattle.gaz_chains.specs.Finding.{found}
 use Rattle.gaz_keeper.specs.Board.{Board, last_view}
-use Rattle.gaz_keeper.specs.Received.{Received}
-use Rattle.gaz_register.specs.Registers.{IsRegister, RegisterValue, blocks_of, owner_of_uprn}
-use Rattle.gaz_register.specs.Registers.{within}
+use Rattle.gaz_keeper.specs.Received.{HasAllOf, Received}
+use Rattle.gaz_register.specs.Registers.{IsRegister, Owners, RegisterValue, blocks_of, owner_of_uprn}
 use Rattle.gaz_rules.specs.Rules.{holds_number}
 use Rattle.gaz_views.specs.View.{custody_at}
 use Rattle.gaz_views.specs.declared.custody.Custody.TheVariants.{Adopted}
 use Rattle.gaz_hub.specs.Became.{became}
-use Rattle.gaz_hub.specs.Standing.{Follows, HasAllOf, IsPartial, Register}
+use Rattle.gaz_hub.specs.Standing.{Follows, IsPartial}
 
 -- the number has a chain and no other; a custodian holds it in its last view just where it is the
 -- chain's holder; and no two custodians adopted it at the same hop, so no release is adopted twice
@@ -40,7 +40,7 @@ OneChain =
 -- the chain of a board begins that of every board that follows it
 abbrev pub ChainsOfBoards : Type 0
 ChainsOfBoards =
-    (register : Register) (files : Received) (board later : Board) (allotted uprn : ℕ)
+    (register : Owners) (files : Received) (board later : Board) (allotted uprn : ℕ)
     (chain longer : List ℕ) (offered others : Option ℕ)
     → Follows register files board later
     → IsChain allotted (became files board uprn) chain offered
@@ -49,10 +49,10 @@ ChainsOfBoards =
 
 -- with more files the same became of a number on a board, and its chain goes on from where it was
 pub record ChainsGrow : Type 0 where
-  pub same : (register : Register) (files bigger : Received) (board : Board) (uprn : ℕ)
+  pub same : (register : Owners) (files bigger : Received) (board : Board) (uprn : ℕ)
       → IsPartial register files board → HasAllOf bigger files
       → became bigger board uprn ≡ became files board uprn
-  pub goes_on : (register : Register) (files bigger : Received) (board later : Board)
+  pub goes_on : (register : Owners) (files bigger : Received) (board later : Board)
       (allotted uprn : ℕ) (chain longer : List ℕ) (offered others : Option ℕ)
       → IsPartial register files board → HasAllOf bigger files
       → Follows register bigger board later
@@ -60,24 +60,31 @@ pub record ChainsGrow : Type 0 where
       → IsChain allotted (became bigger later uprn) longer others
       → IsPrefixOf chain longer
 
--- asking one last view after another, from that of the custodian in whose blocks the number is on,
--- finds the holder
+-- a turn for the first custodian and for each hop
+abbrev pub most_turns : ℕ
+most_turns = 10_000
+
+-- who is found to hold the number, asking one last view after another from that of the custodian on
+-- in whose blocks it lies
+abbrev pub holder_from : Board → ℕ → ℕ → Option ℕ
+holder_from board uprn owner =
+    found (λ c. custody_at (last_view board c) uprn) (λ c. c == owner) most_turns owner
+
+-- that is the chain's holder
 abbrev pub FindsHolders : Type 0
 FindsHolders =
     (register : RegisterValue) (files : Received) (board : Board) (allotted uprn : ℕ)
-    (chain : List ℕ) (offered : Option ℕ) (turns : ℕ)
+    (chain : List ℕ) (offered : Option ℕ)
     → IsRegister register → owner_of_uprn register uprn ≡ Some allotted
     → IsPartial (blocks_of register) files board
-    → IsChain allotted (became files board uprn) chain offered → length chain ≤ turns
-    → found (λ c. custody_at (last_view board c) uprn)
-    (λ c. within (blocks_of register c).uprn uprn) turns allotted
-    ≡ holder chain offered
+    → IsChain allotted (became files board uprn) chain offered
+    → holder_from board uprn allotted ≡ holder chain offered
 
--- a chain has at most as many custodians as there are hops, and the first one
+-- a chain has at most as many custodians as there are turns
 abbrev pub ChainsAreShort : Type 0
 ChainsAreShort =
     (files : Received) (board : Board) (allotted uprn : ℕ) (chain : List ℕ) (offered : Option ℕ)
-    → IsChain allotted (became files board uprn) chain offered → length chain ≤ 10_000
+    → IsChain allotted (became files board uprn) chain offered → length chain ≤ most_turns
 
 -- a number in nobody's blocks
 pub record UnallottedStay : Type 0 where

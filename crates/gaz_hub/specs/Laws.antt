@@ -3,13 +3,13 @@ use Rattle.std.specs.Prelude.{◌≡◌, ℕ, true, List, [], ◌∷◌, ◌++�
 use Rattle.std.specs.FinMap as map
 use Rattle.gaz_register.specs.Registers.{IsRegister, RegisterValue, blocks_of}
 use Rattle.gaz_keeper.specs.Board.{Board}
-use Rattle.gaz_keeper.specs.Keeper.{Seen, empty_content}
+use Rattle.gaz_keeper.specs.Keeper.{Seen}
 use Rattle.gaz_keeper.specs.Received.{Received}
 use Rattle.gaz_rules.specs.Sound.{IsSoundBoard}
 use Rattle.gaz_hub.specs.Answers.{AllAnswered}
 use Rattle.gaz_hub.specs.Hubs.{Runs, StandsFor, Steps, state_of}
 use Rattle.gaz_hub.specs.Outcomes.{outcome}
-use Rattle.gaz_hub.specs.Runs.{Abides, AbidesFrom, is_settled}
+use Rattle.gaz_hub.specs.Runs.{AbidesFrom, is_settled}
 use Rattle.gaz_hub.specs.Standing.{IsPartial, NothingReady, standing}
 use Rattle.gaz_hub.specs.Step.{Command, Door, HubState, Pose, Replied, Response, Step, blocks}
 use Rattle.gaz_hub.specs.Step.{is_volume}
@@ -85,29 +85,3 @@ EveryAnswerOver {K} seen =
     → StandsFor door (seen old) → (seen new).unharmed
     → Runs door (seen old) (seen new) commands responses
     → AllAnswered door (seen old).content.files commands responses (seen new).content.files
-
--- ---- over a keeper that begins with nothing
-
--- the keeper stands for what came first, and for a board that is partial over it
-pub record StandsAfter (door : Door) (commands : List Command) (responses : List Response)
-    (new : Seen) : Type 0 where
-  pub stands : new.stands
-  pub abides : Abides door commands responses (state_of new.content)
-
--- whatever commands come, where nobody else wrote on what the keeper keeps and no failure shut it
-abbrev pub EveryRunOver : {K : Type 0} → (K → Seen) → Type 0
-EveryRunOver {K} seen =
-    (door : Door) (old new : K) (commands : List Command) (responses : List Response)
-    → (seen old).stands → (seen old).content ≡ empty_content → (seen new).unharmed
-    → Runs door (seen old) (seen new) commands responses
-    → StandsAfter door commands responses (seen new)
-
--- after a response that settles, the board is the standing one
-abbrev pub EverySettledRunOver : {K : Type 0} → (K → Seen) → Type 0
-EverySettledRunOver {K} seen =
-    (door : Door) (old new : K) (commands : List Command) (responses : List Response)
-    (command : Command) (response : Response)
-    → (seen old).stands → (seen old).content ≡ empty_content → (seen new).unharmed
-    → Runs door (seen old) (seen new) (commands ++ command ∷ []) (responses ++ response ∷ [])
-    → is_settled response ≡ true
-    → (seen new).content.board ≡ standing (blocks door) (seen new).content.files

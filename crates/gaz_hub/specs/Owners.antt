@@ -1,8 +1,7 @@
 -- Who can have a property, and what a look-up comes to where nobody else has it.
-use Rattle.std.specs.Prelude.{◌≡◌, ℕ, ◌==◌, Bool, true, List, Option, Some, None, if◌then◌else◌}
+use Rattle.std.specs.Prelude.{◌≡◌, ℕ, Bool, true, List, Option, Some, None, if◌then◌else◌}
 use Rattle.std.specs.Option.{option_and_then, option_or}
 use Rattle.gaz_chains.specs.Chains.{IsChain, holder}
-use Rattle.gaz_chains.specs.Finding.{found}
 use Rattle.gaz_extract.specs.Lookups.{lookup, said_by}
 use Rattle.gaz_extract.specs.declared.found.Found.{Found}
 use Rattle.gaz_records.specs.declared.key.Key.TheVariants as key
@@ -11,23 +10,14 @@ use Rattle.gaz_register.specs.Registers.{owner_of_uprn}
 use Rattle.gaz_rules.specs.Rules.{holds_number}
 use Rattle.gaz_keeper.specs.Board.{Board, last_view}
 use Rattle.gaz_keeper.specs.Received.{Received}
-use Rattle.gaz_views.specs.View.{custody_at, holds}
+use Rattle.gaz_views.specs.View.{holds}
 use Rattle.gaz_hub.specs.Became.{became}
+use Rattle.gaz_hub.specs.Chains.{holder_from}
 use Rattle.gaz_hub.specs.Standing.{IsPartial}
 
 -- a custodian can have the properties whose numbers it holds in its last view
 abbrev pub can_have : Board → RegisterValue → ℕ → ℕ → Bool
 can_have board register uprn c = holds_number (blocks_of register c) (last_view board c) uprn
-
--- a turn for the first custodian and for each hop
-abbrev pub most_turns : ℕ
-most_turns = 10_000
-
--- who is found to hold the number, asking one last view after another from that of the custodian on
--- in whose blocks it lies
-abbrev pub holder_from : Board → ℕ → ℕ → Option ℕ
-holder_from board uprn owner =
-    found (λ c. custody_at (last_view board c) uprn) (λ c. c == owner) most_turns owner
 
 -- what a custodian says of the property, where the register has it
 abbrev pub said_by_known : Board → RegisterValue → ℕ → ℕ → Option Found

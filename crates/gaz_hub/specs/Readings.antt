@@ -2,12 +2,12 @@
 use Rattle.std.specs.Prelude.{◌≡◌, ◌≤◌, ℕ, true, List, [], ◌∷◌, ◌++◌, Ok}
 use Rattle.gaz_extract.specs.Extracts.{extract}
 use Rattle.gaz_records.specs.declared.key.Key.TheVariants as key
-use Rattle.gaz_register.specs.Registers.{IsRegister, RegisterValue, blocks_of}
+use Rattle.gaz_register.specs.Registers.{IsRegister, Owners, RegisterValue, blocks_of}
 use Rattle.gaz_keeper.specs.Board.{Board, last_view, reached}
-use Rattle.gaz_keeper.specs.Received.{Received}
+use Rattle.gaz_keeper.specs.Received.{HasAllOf, Received}
 use Rattle.gaz_views.specs.View.{holds}
 use Rattle.gaz_hub.specs.Runs.{Run}
-use Rattle.gaz_hub.specs.Standing.{HasAllOf, IsPartial, Register, standing}
+use Rattle.gaz_hub.specs.Standing.{IsPartial, standing}
 use Rattle.gaz_hub.specs.Step.{Command, Door, HubState, Pose, Replied, Response, Step, Told}
 use Rattle.gaz_hub.specs.Step.{blocks}
 use Rattle.gaz_hub.specs.declared.question.Question.{Question}
@@ -26,7 +26,7 @@ EqualAnswers =
 
 -- the extract of a volume that is reached stays: with more files, and whatever is asked next
 pub record ExtractsStay : Type 0 where
-  pub with_more_files : (register : Register) (files bigger : Received) → HasAllOf bigger files
+  pub with_more_files : (register : Owners) (files bigger : Received) → HasAllOf bigger files
       → (c volume : ℕ) → volume ≤ reached (standing register files) c
       → extract (standing register bigger) c volume ≡ extract (standing register files) c volume
   pub after_a_step : (door : Door) (old new : HubState) (command : Command) (response : Response)

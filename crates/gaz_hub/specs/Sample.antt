@@ -1,8 +1,8 @@
 -- The custodians of the worked examples, and a hub over them.
 use Rattle.std.specs.Prelude.{false, [], ◌∷◌, codes}
-use Rattle.gaz_register.specs.Registers.{RegisterValue, blocks_of}
+use Rattle.gaz_register.specs.Registers.{Owners, RegisterValue, blocks_of}
 use Rattle.gaz_keeper.specs.Received.{Received}
-use Rattle.gaz_hub.specs.Standing.{Register, standing}
+use Rattle.gaz_hub.specs.Standing.{standing}
 use Rattle.gaz_hub.specs.Step.{Door, HubState}
 
 -- 1001, 1002 and 1003 with their blocks of USRNs
@@ -26,7 +26,7 @@ sample_custodians =
     ∷ []
 
 -- the blocks of each code
-abbrev pub sample_register : Register
+abbrev pub sample_register : Owners
 sample_register = blocks_of sample_custodians
 
 -- no profile is turned away

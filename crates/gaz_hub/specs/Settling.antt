@@ -65,11 +65,11 @@ IsNext files board c (next.Waits whom volume) =
 IsNext files board c next.Done = (ready files board c ≡ false) × (wants files board c ≡ None)
 
 -- what a custodian's next volume waits for, if anything
-abbrev pub wanted_by : Next → Option (ℕ × ℕ)
-wanted_by (next.Waits whom volume) = Some (whom, volume)
-wanted_by (next.Good volume contents) = None
-wanted_by (next.Bad volume place rule) = None
-wanted_by next.Done = None
+abbrev pub want_of : Next → Option (ℕ × ℕ)
+want_of (next.Waits whom volume) = Some (whom, volume)
+want_of (next.Good volume contents) = None
+want_of (next.Bad volume place rule) = None
+want_of next.Done = None
 
 -- ---- judging
 

@@ -10,10 +10,10 @@ use Rattle.gaz_extract.specs.Extracts.{extract}
 use Rattle.gaz_extract.specs.Lookups.{lookup}
 use Rattle.gaz_extract.specs.declared.closed.Closed.{Closed}
 use Rattle.gaz_extract.specs.declared.found.Found.{Found}
-use Rattle.gaz_register.specs.Registers.{RegisterValue, blocks_of, knows}
+use Rattle.gaz_register.specs.Registers.{Owners, RegisterValue, blocks_of, knows}
 use Rattle.gaz_keeper.specs.Board.{Board, empty_board}
 use Rattle.gaz_keeper.specs.Received.{Received, with_file}
-use Rattle.gaz_hub.specs.Standing.{Register, Follows, NothingReady}
+use Rattle.gaz_hub.specs.Standing.{Follows, NothingReady}
 use Rattle.gaz_hub.specs.Outcomes.{outcome, status}
 use Rattle.gaz_hub.specs.declared.answer.Answer.{Answer}
 use Rattle.gaz_hub.specs.declared.answer.Answer.TheVariants.{New, Repeat, Taken, Refused}
@@ -33,7 +33,7 @@ pub record Door : Type 0 where
   pub is_foreign : List ℕ → Bool
 
 -- the blocks of each code
-abbrev pub blocks : Door → Register
+abbrev pub blocks : Door → Owners
 blocks door = blocks_of door.register
 
 -- what was received, and how far it is judged

@@ -13,8 +13,8 @@ use Rattle.gaz_views.specs.View.{empty_view, with_adoption, with_release}
 use Rattle.gaz_views.specs.declared.custody.Custody.TheVariants.{Adopted, Released}
 use Rattle.gaz_views.specs.declared.verdict.Verdict.TheVariants.{Applied, Rejected}
 use Rattle.gaz_rules.specs.Passing.{made_of}
+use Rattle.gaz_hub.specs.Chains.{holder_from}
 use Rattle.gaz_hub.specs.Became.{became, made_in, reading_at}
-use Rattle.gaz_hub.specs.Owners.{holder_from}
 
 abbrev pub release : Item
 release = item.Release (record { uprn = 42; to = 1002; hop = 1 })

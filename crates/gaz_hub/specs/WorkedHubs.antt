@@ -9,7 +9,7 @@ use Rattle.gaz_keeper.specs.declared.fault.ShelfFault.TheVariants as fault
 use Rattle.gaz_hub.specs.Examples.{one_judged, sent}
 use Rattle.gaz_hub.specs.Hubs.{cause_of, door_of, is_foreign, state_of}
 use Rattle.gaz_hub.specs.Outcomes.{first_unreached}
-use Rattle.gaz_hub.specs.Settling.{IsNext, IsNextFile, wanted_by}
+use Rattle.gaz_hub.specs.Settling.{IsNext, IsNextFile, want_of}
 use Rattle.gaz_hub.specs.Step.{Replied, Submitted, blocks, new_hub, turned_away}
 use Rattle.gaz_hub.specs.WorkedBoards.{basis}
 use Rattle.gaz_hub.specs.declared.answer.Answer.TheVariants.{New, Refused, Taken}
@@ -84,8 +84,8 @@ pub record WorkedLooks : Type 0 where
   pub never_held : IsNext sent empty_board 1003 (Waits 1003 1) → ⊥
   pub missing : IsNextFile sent one_judged 1003 (Missing 2)
   pub never_past : IsNextFile sent one_judged 1003 Past → ⊥
-  pub wanted : wanted_by (Waits 1003 2) ≡ Some (1003, 2)
-  pub none_wanted : wanted_by (Bad 1 1 1) ≡ None
+  pub wanted : want_of (Waits 1003 2) ≡ Some (1003, 2)
+  pub none_wanted : want_of (Bad 1 1 1) ≡ None
 
 pub record WorkedHubs : Type 0 where
   pub on_doors : WorkedDoors

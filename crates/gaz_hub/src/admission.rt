@@ -16,10 +16,7 @@ pub fn known_code(register: &Register, code: u64) -> Result<Code, DoorRefusal>
         × (knows register.now code ≡ false)) }
     ensures known { IfOk result (λ c. (c ≡ code) × (knows register.now code ≡ true)) }
 {
-    match register.code_of(code) {
-        Some(code) => Ok(code),
-        None => Err(DoorRefusal::UnknownCustodian),
-    }
+    register.code_of(code).ok_or(DoorRefusal::UnknownCustodian)
 }
 
 /// The pair under which a file of this size came, or the first refusal of the door.

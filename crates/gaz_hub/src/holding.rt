@@ -8,8 +8,9 @@ ghost use Rattle.gaz_keeper.specs.Board.{last_view};
 ghost use Rattle.gaz_keeper.specs.Telling.{IsNotJudging};
 ghost use Rattle.gaz_views.specs.Custody.{hop_of};
 ghost use Rattle.gaz_views.specs.View.{custody_at};
-ghost use Rattle.gaz_hub.specs.Following.{is_asked};
-ghost use Rattle.gaz_hub.specs.Owners.{holder_from, said_by_known, told_by_holder};
+ghost use Rattle.gaz_hub.specs.Chains.{holder_from};
+ghost use Rattle.gaz_hub.specs.Following.{as_asked};
+ghost use Rattle.gaz_hub.specs.Owners.{said_by_known, told_by_holder};
 
 use gaz_extract::{Found, lookup_with};
 use gaz_ids::{Code, Uprn};
@@ -47,7 +48,7 @@ fn custody_now<K: Shelf>(
 fn ask<K: Shelf>(keeper: &mut K, owner: Code, code: Code, uprn: Uprn) -> Result<Asked, ShelfFault>
     requires { IsNotJudging K.seen keeper.old }
     ensures tells { LooksAtBoard K.seen keeper.old keeper.new result
-        (λ board a. is_asked a ≡ asked (λ c. custody_at (last_view board c) uprn)
+        (λ board a. as_asked a ≡ asked (λ c. custody_at (last_view board c) uprn)
         (code == owner) (custody_at (last_view board code) uprn)) }
     ensures not_open { IsNotJudging K.seen keeper.new }
 {

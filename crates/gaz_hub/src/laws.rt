@@ -5,8 +5,7 @@ ghost use Rattle.gaz_hub.specs.Chains.{OneChain, UnallottedStay};
 ghost use Rattle.gaz_hub.specs.Found.{EveryStopOver};
 ghost use Rattle.gaz_hub.specs.Growth.{AnswersStay, EveryGrownRun, GrowthKeeps, GrowthStands};
 ghost use Rattle.gaz_hub.specs.Laws.{AllSound, CallsMakeRuns, EachIsTold, EveryAnswerOver};
-ghost use Rattle.gaz_hub.specs.Laws.{EveryRunFromOver, EveryRunOver, EverySettledRunFromOver};
-ghost use Rattle.gaz_hub.specs.Laws.{EverySettledRunOver};
+ghost use Rattle.gaz_hub.specs.Laws.{EveryRunFromOver, EverySettledRunFromOver};
 ghost use Rattle.gaz_hub.specs.Owners.{OwnersAlone};
 ghost use Rattle.gaz_hub.specs.ReadBack.{BoardsReadBack};
 ghost use Rattle.gaz_hub.specs.Readings.{EqualAnswers, ExtractsStay, OneHolder};
@@ -207,18 +206,4 @@ pub fn every_answer_over<K: Inbox + Drop>()
 pub fn every_stop_over<K: Inbox + Drop>()
     ensures keeper { EveryStopOver K.seen }
     ensures hub { EveryStopOver (hub_seen K.seen) }
-{}
-
-/// Whatever commands come, over any keeper that began with nothing, it stands for what came first
-/// and for a board that is partial over it.
-pub fn every_run_over<K: Inbox + Drop>()
-    ensures keeper { EveryRunOver K.seen }
-    ensures hub { EveryRunOver (hub_seen K.seen) }
-{}
-
-/// After a response that settles, over any keeper that began with nothing, the board is the
-/// standing one.
-pub fn every_settled_run_over<K: Inbox + Drop>()
-    ensures keeper { EverySettledRunOver K.seen }
-    ensures hub { EverySettledRunOver (hub_seen K.seen) }
 {}

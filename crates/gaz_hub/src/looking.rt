@@ -2,7 +2,7 @@
 ghost use Rattle.std.specs.Prelude.{◌≡◌, ◌+◌};
 ghost use Rattle.gaz_changefile.specs.Reading.{Bad, Good};
 ghost use Rattle.gaz_keeper.specs.Board.{reached};
-ghost use Rattle.gaz_hub.specs.Settling.{IsNext, IsNextFile, IsReadAs, IsWeighed, wanted_by};
+ghost use Rattle.gaz_hub.specs.Settling.{IsNext, IsNextFile, IsReadAs, IsWeighed, want_of};
 ghost use Rattle.gaz_hub.specs.Outcomes.{first_unreached, wants};
 ghost use Rattle.gaz_extract.specs.Readings.{LooksAtBoard};
 ghost use Rattle.gaz_hub.specs.Telling.{LooksAtKept};
@@ -44,7 +44,7 @@ pub enum Next {
 impl Next {
     // The volume that it waits for, if any.
     fn wanted(&self) -> Option<(Code, Volume)>
-        ensures { result ≡ wanted_by self.now }
+        ensures { result ≡ want_of self.now }
     {
         match self {
             Next::Waits(custodian, volume) => Some((*custodian, *volume)),

@@ -25,14 +25,7 @@ impl Told {
     ) -> Result<Option<Told>, Refusal>
         ensures { (code volume : ℕ) → result ≡ telling (Ask code volume) outcome }
     {
-        match outcome {
-            Ok(Some(told)) => {
-                let digest = told.0;
-                Ok(Some(Told::Outcome(digest, told.1)))
-            }
-            Ok(None) => Ok(None),
-            Err(refusal) => Err(refusal),
-        }
+        Ok(outcome?.map(|(digest, outcome)| Told::Outcome(digest, outcome)))
     }
 
     // What is told of a custodian's standing.
@@ -54,22 +47,14 @@ impl Told {
     fn of_property(found: Result<Option<Found>, Refusal>) -> Result<Option<Told>, Refusal>
         ensures { (uprn : ℕ) → result ≡ telling (LookUp uprn) found }
     {
-        match found {
-            Ok(Some(found)) => Ok(Some(Told::Found(found))),
-            Ok(None) => Ok(None),
-            Err(refusal) => Err(refusal),
-        }
+        Ok(found?.map(Told::Found))
     }
 
     // What is told of an extract.
     fn of_extract(extract: Result<Option<Vec<u8>>, Refusal>) -> Result<Option<Told>, Refusal>
         ensures { (code volume : ℕ) → result ≡ telling (Extract code volume) (told extract) }
     {
-        match extract {
-            Ok(Some(bytes)) => Ok(Some(Told::Extract(ExtractText { bytes }))),
-            Ok(None) => Ok(None),
-            Err(refusal) => Err(refusal),
-        }
+        Ok(extract?.map(|bytes| Told::Extract(ExtractText { bytes })))
     }
 
     // What is told of addresses on closed streets.

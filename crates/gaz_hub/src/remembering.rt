@@ -107,20 +107,15 @@ pub fn settled<K: Inbox, T: Drop, F: FnOnce(&mut K) -> Result<T, ShelfFault>>(
     ensures open { IsOpen (K.seen keeper.new) result }
     ensures forgets { OnErr result (waiters.new ≡ None) }
 {
-    match settle_all(alloc, register, keeper, waiters) {
-        Ok(()) => read_kept(keeper, waiters, read),
-        Err(fault) => Err(fault),
-    }
+    settle_all(alloc, register, keeper, waiters)?;
+    read_kept(keeper, waiters, read)
 }
 
 // What is remembered of what a custodian waits for.
 fn known_of(waiters: &Option<Waiters>, code: Code) -> Option<(Code, Volume)>
     ensures { result ≡ known_in waiters.now code }
 {
-    match waiters {
-        Some(waiters) => waiters.known(code),
-        None => None,
-    }
+    waiters.as_ref()?.known(code)
 }
 
 /// What a reading tells that is given what a custodian is known to wait for, once all is settled.
@@ -145,17 +140,13 @@ pub fn settled_knowing<
     ensures open { IsOpen (K.seen keeper.new) result }
     ensures forgets { OnErr result (waiters.new ≡ None) }
 {
-    match settle_all(alloc, register, keeper, waiters) {
-        Ok(()) => {
-            let known = known_of(waiters, code);
-            let knowing = move |keeper: &mut K| -> Result<T, ShelfFault>
-                requires { TakesKnowing F.FnOnce read keeper.old known }
-                ensures { ReturnsKnowing F.FnOnce read keeper.old known result keeper.new }
-            { read(keeper, known) };
-            read_kept(keeper, waiters, knowing)
-        }
-        Err(fault) => Err(fault),
-    }
+    settle_all(alloc, register, keeper, waiters)?;
+    let known = known_of(waiters, code);
+    let knowing = move |keeper: &mut K| -> Result<T, ShelfFault>
+        requires { TakesKnowing F.FnOnce read keeper.old known }
+        ensures { ReturnsKnowing F.FnOnce read keeper.old known result keeper.new }
+    { read(keeper, known) };
+    read_kept(keeper, waiters, knowing)
 }
 
 /// The reply to a question whose reading is given what a custodian is known to wait for, once all
@@ -179,10 +170,7 @@ pub fn answered_knowing<
         (keeper.old, waiters.old) (keeper.new, waiters.new) result }
     ensures forgets { OnErr result (waiters.new ≡ None) }
 {
-    match settled_knowing(alloc, register, keeper, waiters, code, read) {
-        Ok(told) => Ok(told),
-        Err(fault) => Err(Refusal::NotReceived(fault)),
-    }
+    settled_knowing(alloc, register, keeper, waiters, code, read).map_err(Refusal::NotReceived)
 }
 
 // What was told, where it is sure that the keeper could still be asked.
@@ -193,13 +181,9 @@ fn once_sure<K: Inbox, T: Drop>(
     ensures sured { IsSured K.seen keeper.old keeper.new told result }
     ensures open { IsOpen (K.seen keeper.new) result }
 {
-    match told {
-        Ok(told) => match keeper.sure() {
-            Ok(()) => Ok(told),
-            Err(fault) => Err(fault),
-        },
-        Err(fault) => Err(fault),
-    }
+    let told = told?;
+    keeper.sure()?;
+    Ok(told)
 }
 
 // What a reading tells, once it is sure that the keeper could be asked. After a fault nothing is
@@ -240,8 +224,5 @@ pub fn answered<K: Inbox, T: Drop, F: FnOnce(&mut K) -> Result<T, ShelfFault>>(
         (keeper.old, waiters.old) (keeper.new, waiters.new) result }
     ensures forgets { OnErr result (waiters.new ≡ None) }
 {
-    match settled(alloc, register, keeper, waiters, read) {
-        Ok(told) => Ok(told),
-        Err(fault) => Err(Refusal::NotReceived(fault)),
-    }
+    settled(alloc, register, keeper, waiters, read).map_err(Refusal::NotReceived)
 }

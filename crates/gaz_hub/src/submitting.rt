@@ -126,9 +126,8 @@ impl<K: Inbox + Drop> Hub<K> {
             volume,
             file,
         );
-        match received {
-            Ok(()) => {}
-            Err(fault) => return Answer::Refused(Refusal::NotReceived(fault)),
+        if let Err(fault) = received {
+            return Answer::Refused(Refusal::NotReceived(fault));
         }
         match self.settle_and_tell(code, volume) {
             Ok(told) => Answer::New(told),

@@ -1,6 +1,10 @@
 -- The limits of the profile that more than one layer keeps.
 use Rattle.std.specs.Prelude.{ℕ}
 
+-- the greatest code of a custodian
+abbrev pub last_code : ℕ
+last_code = 9999
+
 -- the last volume of a custodian
 abbrev pub last_volume : ℕ
 last_volume = 999_999

@@ -1,5 +1,5 @@
 -- What was received.
-use Rattle.std.specs.Prelude.{ℕ, ◌==◌, nat_le, not, ◌&&◌, List, count_by}
+use Rattle.std.specs.Prelude.{◌≡◌, ℕ, ◌==◌, nat_le, not, ◌&&◌, List, count_by, Some}
 use Rattle.std.specs.declared.cmp.Ordering.{Ordering}
 use Rattle.std.specs.Ordering.{nat_cmp, ordering_then}
 use Rattle.std.specs.FinMap as map
@@ -14,6 +14,11 @@ Received = map.FinMap pair_cmp (List ℕ)
 
 abbrev pub with_file : Received → ℕ → ℕ → List ℕ → Received
 with_file files c volume bytes = map.insert files (c, volume) bytes
+
+-- each file of the smaller set is in the bigger one, with the same bytes
+abbrev pub HasAllOf : Received → Received → Type 0
+HasAllOf bigger smaller =
+    (p : ℕ × ℕ) (bytes : List ℕ) → map.get smaller p ≡ Some bytes → map.get bigger p ≡ Some bytes
 
 -- how many of a custodian's files are above a volume
 abbrev pub count_above : Received → ℕ → ℕ → ℕ

@@ -48,7 +48,8 @@ impl Histories {
         false
     }
 
-    // Adds a key under the BLPUs that its items name after a volume and after the next one.
+    // Adds a key, which comes but once, under the BLPUs that its items name after a volume and after
+    // the next one.
     fn add_named(&self, keys: &mut TiedKeys, volume: u64, key: &SortKey) -> Result<(), AllocError>
         requires { volume < 2 ^ 64 - 1 }
         ensures kept { OnOk result (KeepsTies keys.old keys.new) }
@@ -58,11 +59,11 @@ impl Histories {
     {
         let first = self.named(volume, key);
         let next = self.named(volume + 1, key);
-        keys.add_some(first, *key)?;
+        keys.add_new(first, *key)?;
         if next == first {
             return Ok(());
         }
-        keys.add_some(next, *key)
+        keys.add_new(next, *key)
     }
 
     /// The keys of all items that name a BLPU after a volume or after the next one.

@@ -58,6 +58,18 @@ impl TiedKeys {
         }
     }
 
+    /// Adds a key under a BLPU, where one is given. It isn't looked for there, which would take as
+    /// long as there are keys: one that is there already stands there twice.
+    pub fn add_new(&mut self, named: Option<Uprn>, key: SortKey) -> Result<(), AllocError>
+        ensures kept { OnOk result (KeepsTies self.old self.new) }
+        ensures tied { OnOk result (IsTiedTo self.new named key) }
+    {
+        match named {
+            Some(uprn) => self.add(uprn, key),
+            None => Ok(()),
+        }
+    }
+
     /// Adds a key under a BLPU, where one is given and the key isn't there yet.
     pub fn add_some(&mut self, named: Option<Uprn>, key: SortKey) -> Result<(), AllocError>
         ensures kept { OnOk result (KeepsTies self.old self.new) }
@@ -65,8 +77,7 @@ impl TiedKeys {
     {
         match named {
             Some(uprn) if self.has(uprn, &key) => Ok(()),
-            Some(uprn) => self.add(uprn, key),
-            None => Ok(()),
+            _ => self.add_new(named, key),
         }
     }
 }

@@ -12,9 +12,9 @@ use Rattle.sqlite_rules.specs.Lists.{Has}
 use Rattle.gaz_views.specs.declared.verdict.Verdict.{Verdict}
 use Rattle.gaz_keeper.specs.Board.{Board, adds, last_view, reached, verdict_on}
 use Rattle.gaz_keeper.specs.Keeper.{Content, Seen, with_received}
-use Rattle.gaz_keeper.specs.Received.{Received, pair_cmp, with_file}
+use Rattle.gaz_keeper.specs.Received.{HasAllOf, Received, pair_cmp, with_file}
 use Rattle.gaz_keeper.proofs.Pairs.{pairs_exact, pairs_total}
-use Rattle.gaz_loaded.specs.Files.{AreAmong, AreThere, Copies, IsEntered, IsPart, OnlyReads}
+use Rattle.gaz_loaded.specs.Files.{AreThere, Copies, IsEntered, IsPart, OnlyReads}
 use Rattle.gaz_loaded.proofs.Boards.{added_bare, added_verdicts}
 
 -- ---- one file more
@@ -37,7 +37,7 @@ module _ (files : Received) (c v : ℕ) (bytes : List ℕ) where
   pub new_there : map.get more (c, v) ≡ Some bytes
   new_there = get_more (c, v) ∙ ap (λ o. cond (is_eq o) (Some bytes) (map.get files (c, v))) (tied_itself pairs_total (c, v))
 
-  pub was_there : map.get files (c, v) ≡ None → AreAmong files more
+  pub was_there : map.get files (c, v) ≡ None → HasAllOf more files
   was_there none p x is = by_pair (eq_by_cmp pair_cmp p (c, v)) refl
     where
       by_pair : (b : Bool) → eq_by_cmp pair_cmp p (c, v) ≡ b → map.get more p ≡ Some x
@@ -45,7 +45,7 @@ module _ (files : Received) (c v : ℕ) (bytes : List ℕ) where
       by_pair false other = get_more p ∙ ap (λ b. cond b (Some bytes) (map.get files p)) other ∙ is
 
   -- each of them is another's, where the new one is
-  pub still_among : (many : Received) → AreAmong files many → map.get many (c, v) ≡ Some bytes → AreAmong more many
+  pub still_among : (many : Received) → HasAllOf many files → map.get many (c, v) ≡ Some bytes → HasAllOf many more
   still_among many among there p x is = by_pair (eq_by_cmp pair_cmp p (c, v)) refl
     where
       by_pair : (b : Bool) → eq_by_cmp pair_cmp p (c, v) ≡ b → map.get many p ≡ Some x
@@ -74,8 +74,8 @@ module _ (a b : Seen) (k m : Content) (c v : ℕ) (bytes : List ℕ) (reads : On
   files_are : m.files ≡ with_file k.files c v bytes
   files_are = ap (λ (x : Content). x.files) becomes
 
-  grown : AreAmong k.files m.files
-  grown = subst (AreAmong k.files) (sym files_are) (was_there k.files c v bytes none)
+  grown : HasAllOf m.files k.files
+  grown = subst (λ (F : Received). HasAllOf F k.files) (sym files_are) (was_there k.files c v bytes none)
 
   part_of : (kept : Content) → map.get kept.files (c, v) ≡ Some bytes → IsPart kept k → IsPart kept m
   part_of kept is part = subst (IsPart kept) (sym becomes) (record {
@@ -158,7 +158,7 @@ has_end [] x v (inr later) = absurd later
 has_end (y ∷ xs) x v (inl same) = inl (inl same)
 has_end (y ∷ xs) x v (inr later) = elim (has_end xs x v later) [ inl there ↦ inl (inr there) | inr same ↦ inr same ]
 
-pub is_still : (old new : Received) (p : ℕ × ℕ) → AreAmong old new → IsSome (map.get old p) → IsSome (map.get new p)
+pub is_still : (old new : Received) (p : ℕ × ℕ) → HasAllOf new old → IsSome (map.get old p) → IsSome (map.get new p)
 is_still old new p among there = by_file (map.get old p) refl there
   where
     by_file : (o : Option (List ℕ)) → map.get old p ≡ o → IsSome o → IsSome (map.get new p)
@@ -166,7 +166,7 @@ is_still old new p among there = by_file (map.get old p) refl there
     by_file (Some x) is some = subst IsSome (sym (among p x is)) refl
 
 -- one more of the volumes is there
-pub more_there : (c : ℕ) (volumes : List ℕ) (i v : ℕ) (old new : Received) → i < length volumes → v ≡ get_or volumes i v → AreAmong old new
+pub more_there : (c : ℕ) (volumes : List ℕ) (i v : ℕ) (old new : Received) → i < length volumes → v ≡ get_or volumes i v → HasAllOf new old
     → AreThere c (take i volumes) old → IsSome (map.get new (c, v)) → AreThere c (take (i + 1) volumes) new
 more_there c volumes i v old new below is among before now w has =
     elim (has_end (take i volumes) v w (subst (λ l. Has l w) (take_more volumes i v below ∙ ap (λ z. take i volumes ++ z ∷ []) (sym is)) has)) [

@@ -7,7 +7,8 @@ use Rattle.gaz_views.specs.View.{empty_view}
 use Rattle.gaz_views.specs.declared.verdict.Verdict.TheVariants.{Applied}
 use Rattle.gaz_keeper.specs.Examples.{first_received, kept_safe, three_files}
 use Rattle.gaz_keeper.specs.Keeper.{Content, empty_content, with_judgement}
-use Rattle.gaz_loaded.specs.Files.{AreAmong, AreThere, HasAll, IsEntered, IsPart}
+use Rattle.gaz_keeper.specs.Received.{HasAllOf}
+use Rattle.gaz_loaded.specs.Files.{AreThere, HasAll, IsEntered, IsPart}
 use Rattle.gaz_loaded.specs.Files.{OnlyReads}
 use Rattle.gaz_loaded.specs.Lives.{IsBehind, IsBy, IsFirst, Told, gone_of, lives_of}
 use Rattle.gaz_loaded.specs.Loading.{IsOfThese}
@@ -59,11 +60,13 @@ pub record WorkedVolumes : Type 0 where
   pub of_nothing : AreAbove map.empty 1001 0 []
   pub ends_too_early : ¬ AreAbove three_files 1001 1 []
   pub one_left_out : ¬ AreAbove three_files 1001 0 (3 ∷ [])
+  pub not_above : ¬ AreAbove three_files 1001 1 (1 ∷ 3 ∷ [])
+  pub not_received : ¬ AreAbove three_files 1001 1 (2 ∷ 3 ∷ [])
 
 -- how much of the files is at hand
 pub record WorkedFiles : Type 0 where
-  pub none_of_them : AreAmong map.empty three_files
-  pub too_many : ¬ AreAmong three_files map.empty
+  pub none_of_them : HasAllOf three_files map.empty
+  pub too_many : ¬ HasAllOf map.empty three_files
   pub there : AreThere 1001 (1 ∷ 3 ∷ []) three_files
   pub not_there : ¬ AreThere 1001 (2 ∷ []) three_files
   pub all : HasAll 1001 three_files three_files

@@ -1,12 +1,12 @@
 -- How much of what was received is at hand.
-use Rattle.std.specs.Prelude.{◌≡◌, ◌≢◌, ◌≤◌, ◌+◌, ℕ, List, IsSome, Some}
+use Rattle.std.specs.Prelude.{◌≡◌, ◌≢◌, ◌≤◌, ◌+◌, ℕ, List, IsSome}
 use Rattle.std.specs.FinMap as map
 use Rattle.sqlite_rules.specs.Lists.{Has}
 use Rattle.gaz_views.specs.View.{empty_view}
 use Rattle.gaz_views.specs.declared.verdict.Verdict.{Verdict}
 use Rattle.gaz_keeper.specs.Board.{last_view, reached, verdict_on, view_after}
 use Rattle.gaz_keeper.specs.Keeper.{Content, Keeps, Seen, with_judgement}
-use Rattle.gaz_keeper.specs.Received.{Received}
+use Rattle.gaz_keeper.specs.Received.{HasAllOf, Received}
 
 -- calls that only read
 pub record OnlyReads (old new : Seen) : Type 0 where
@@ -14,14 +14,9 @@ pub record OnlyReads (old new : Seen) : Type 0 where
   pub failures : old.failures ≤ new.failures
   pub trust : new.trusted → old.trusted
 
--- each file of the one is the other's
-abbrev pub AreAmong : Received → Received → Type 0
-AreAmong few many = (p : ℕ × ℕ) (bytes : List ℕ) → map.get few p ≡ Some bytes
-    → map.get many p ≡ Some bytes
-
 -- files and verdicts are those that are kept, and no view holds anything yet
 pub record IsPart (kept now : Content) : Type 0 where
-  pub files : AreAmong now.files kept.files
+  pub files : HasAllOf kept.files now.files
   pub verdicts : (c volume : ℕ) → volume ≤ reached now.board c
       → verdict_on now.board c volume ≡ verdict_on kept.board c volume
   pub bare : (c volume : ℕ) → view_after now.board c volume ≡ empty_view
@@ -29,7 +24,7 @@ pub record IsPart (kept now : Content) : Type 0 where
 
 -- what was there still is, and of other custodians nothing was judged
 pub record Grows (c : ℕ) (old new : Content) : Type 0 where
-  pub files : AreAmong old.files new.files
+  pub files : HasAllOf new.files old.files
   pub others : (d : ℕ) → d ≢ c → new.board d ≡ old.board d
 
 -- a custodian's files, or verdicts, were brought to hand from a keeper
@@ -69,7 +64,7 @@ pub record CopiesAll (codes : List ℕ) (lower_old lower_new : Seen) (old new : 
     : Type 0 where
   pub part : lower_old.stands → lower_new.unharmed → IsPart lower_old.content old
       → IsPart lower_old.content new
-  pub files : AreAmong old.files new.files
+  pub files : HasAllOf new.files old.files
   pub all : lower_old.stands → lower_new.unharmed → (c : ℕ) → Has codes c
       → HasAll c lower_old.content.files new.files
   pub judged : (c : ℕ) → Has codes c → AsManyJudged c lower_old lower_new new

@@ -22,6 +22,7 @@ last_of xs = slice_get xs (length xs - 1)
 -- received volumes of a custodian above one, with each up to the last of them; none where there is
 -- none
 pub record AreAbove (files : Received) (c volume : ℕ) (answer : List ℕ) : Type 0 where
+  pub only : (v : ℕ) → Has answer v → (volume < v) × IsSome (map.get files (c, v))
   pub all : (last v : ℕ) → last_of answer ≡ Some last → volume < v → v ≤ last
       → IsSome (map.get files (c, v)) → Has answer v
   pub none : last_of answer ≡ None → (v : ℕ) → volume < v → ¬ IsSome (map.get files (c, v))

@@ -53,6 +53,10 @@ no_blocks = record { uprn = []; usrn = [] }
 abbrev pub blocks_of : RegisterValue → ℕ → Blocks
 blocks_of register code = option_map_or (λ c. c.own) (custodian_of register code) no_blocks
 
+-- each custodian's own blocks
+abbrev pub Owners : Type 0
+Owners = ℕ → Blocks
+
 -- the code of the custodian whose blocks hold the number
 abbrev pub owner_in : (Blocks → List (ℕ × ℕ)) → RegisterValue → ℕ → Option ℕ
 owner_in kind register n = option_map (λ c. c.code) (find (λ c. within (kind c.own) n) register)

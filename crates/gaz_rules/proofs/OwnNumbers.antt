@@ -4,13 +4,13 @@ use Rattle.std.specs.Prelude.{Some, fold}
 use Rattle.gaz_changefile.specs.Reading.{Reading, Good, Bad}
 use Rattle.gaz_records.specs.declared.key.Key.TheVariants as key
 use Rattle.gaz_register.proofs.Ownership.{one-owner}
-use Rattle.gaz_register.specs.Registers.{Blocks, IsRegister, RegisterValue, blocks_of, within}
+use Rattle.gaz_register.specs.Registers.{Blocks, IsRegister, Owners, RegisterValue, blocks_of, within}
 use Rattle.gaz_views.specs.View.{View, empty_view}
 use Rattle.gaz_keeper.specs.Board.{Board, adds, last_view, reached}
 use Rattle.gaz_rules.specs.Rules.{effect}
 use Rattle.gaz_rules.specs.Judging.{bases_of, end_faults, judge, record_faults}
 use Rattle.gaz_rules.specs.Bases.{basis_views, judged_on}
-use Rattle.gaz_rules.specs.Sound.{AllHoldOwn, HoldsOwn, Owners}
+use Rattle.gaz_rules.specs.Sound.{AllHoldOwn, HoldsOwn}
 use Rattle.gaz_rules.specs.Laws.{OwnNumbersStay}
 use Rattle.gaz_rules.proofs.Judged.{all_kept, both_empty, stays_or_same}
 use Rattle.gaz_rules.proofs.SoundBoards.{on_empty_board, on_more, unheld}

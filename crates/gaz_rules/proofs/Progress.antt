@@ -1,7 +1,8 @@
 -- What readings of a judgement in progress tell together.
 use Rattle.std.proofs.Common.{◌≡◌, ◌≢◌, ◌∙◌, ℕ, arith, refl, subst, sym}
-use Rattle.std.specs.Prelude.{Ok}
+use Rattle.std.specs.Prelude.{Err, Ok, Result}
 use Rattle.gaz_keeper.specs.Keeper.{Broken, Content, IsLeft, Keeps, Open, Progress, Reads, Seen}
+use Rattle.gaz_keeper.specs.declared.fault.ShelfFault.{ShelfFault}
 use Rattle.gaz_keeper.proofs.Keeping.{keeps_then}
 
 pub not_broken : (p : Progress) (c : ℕ) → p ≡ Open c → p ≢ Broken
@@ -27,6 +28,11 @@ reads_none a c x P e right =
       cleared = not_broken a.progress c e;
       counts = record { kept = omega arith; store = tt; trust = λ t. t };
     }
+
+-- a call whose answer is right in another way too
+pub reads_as : {T : Type 0} (a b : Seen) (r : Result T ShelfFault) (P Q : T → Type 0) → Reads a b r P → ((x : T) → P x → Q x) → Reads a b r Q
+reads_as a b (Ok x) P Q did more = record { keeps = did.keeps; right = λ stood fine. more x (did.right stood fine); cleared = did.cleared; counts = did.counts }
+reads_as a b (Err e) P Q did more = record { keeps = did.keeps; right = λ _ _. tt; cleared = did.cleared; counts = did.counts }
 
 -- two calls, whose answers give a third
 pub reads_both : {T U V : Type 0} (a b c : Seen) (x : T) (y : U) (z : V) (P : T → Type 0) (Q : Content → U → Type 0) (R : V → Type 0)

@@ -1,6 +1,6 @@
 -- The end rules of a change file, as tests of a key in the view after all records.
 use Rattle.std.specs.Prelude.{ℕ, zero, suc, ◌==◌, Bool, true, false, not, ◌&&◌, ◌||◌, if◌then◌else◌}
-use Rattle.std.specs.Prelude.{List, [], ◌∷◌, map, length, is_some, is_none, Option, Some, None}
+use Rattle.std.specs.Prelude.{List, [], ◌∷◌, map, length, is_none, Option, Some, None}
 use Rattle.std.specs.Option.{option_and_then, option_map_or}
 use Rattle.std.specs.List.{find, list_any, range_with_len}
 use Rattle.std.specs.Ordering.{eq_by_cmp}
@@ -14,7 +14,7 @@ use Rattle.gaz_records.specs.declared.item.Item.TheVariants as item
 use Rattle.gaz_records.specs.declared.key.Key.{Key}
 use Rattle.gaz_records.specs.declared.key.Key.TheVariants as key
 use Rattle.gaz_views.specs.View.{View, holds}
-pub use Rattle.gaz_views.specs.Numbered.{as_blpu, as_street, blpu_at, street_at}
+pub use Rattle.gaz_views.specs.Numbered.{as_blpu, as_street, blpu_at, is_closed, street_at}
 use Rattle.gaz_views.specs.Words.{approved_of, approved_on, has_children, is_approved, tied}
 
 -- ---- what stands in a view
@@ -39,10 +39,6 @@ blpu_named _ = None
 -- the approved LPI under a key
 abbrev pub approved_at : View → Key → Option LpiValue
 approved_at v k = option_and_then as_approved (fin.get v.items k)
-
--- a street that has an end date
-abbrev pub is_closed : View → ℕ → Bool
-is_closed v usrn = if_some (street_at v usrn) (λ s. is_some s.end)
 
 abbrev pub is_historical : Status → Bool
 is_historical Historical = true

@@ -8,7 +8,7 @@ use Rattle.gaz_records.specs.declared.item.Item.{Item}
 use Rattle.gaz_records.specs.declared.key.Key.{Key}
 use Rattle.gaz_records.specs.declared.key.Key.TheVariants as key
 use Rattle.gaz_changefile.specs.Reading.{Reading}
-use Rattle.gaz_register.specs.Registers.{Blocks, within}
+use Rattle.gaz_register.specs.Registers.{Blocks, Owners, within}
 use Rattle.gaz_views.specs.View.{View, holds, was_used}
 use Rattle.gaz_keeper.specs.Board.{Board, view_after}
 use Rattle.gaz_rules.specs.Judging.{bases_of}
@@ -46,10 +46,6 @@ abbrev pub HoldsOwn : Blocks → View → Type 0
 HoldsOwn own v = (uprn : ℕ) → holds v (key.Blpu uprn) ≡ true → holds_number own v uprn ≡ true
 
 -- ---- views of many custodians
-
--- each custodian's own blocks
-abbrev pub Owners : Type 0
-Owners = ℕ → Blocks
 
 -- no street number is in the own blocks of two custodians
 abbrev pub AreDisjoint : Owners → Type 0

@@ -2,7 +2,7 @@
 ghost use Rattle.std.specs.Prelude.{◌≡◌, IfOk};
 ghost use Rattle.gaz_records.specs.declared.item.Item.TheVariants as item;
 
-use gaz_addressable::{Text, TextFault};
+use gaz_addressable::Text;
 use gaz_records::{Blpu, Item, SharedItem};
 use std::alloc::{AllocError, Global};
 
@@ -10,10 +10,7 @@ use std::alloc::{AllocError, Global};
 fn postcode_of(alloc: Global, postcode: &Text<8>) -> Result<Text<8>, AllocError>
     ensures { IfOk result (λ text. text ≡ postcode.now) }
 {
-    match Text::read(alloc, postcode.as_bytes()) {
-        Ok(text) => Ok(text),
-        Err(TextFault::BadForm | TextFault::TooLong | TextFault::Memory) => Err(AllocError),
-    }
+    Text::read(alloc, postcode.as_bytes()).map_err(|_| AllocError)
 }
 
 /// A BLPU once more, as an item by itself.

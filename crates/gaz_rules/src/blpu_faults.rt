@@ -45,7 +45,7 @@ fn is_own_ancestor<K: Shelf>(
     let Some(parent) = parent else {
         return Ok(false);
     };
-    Ok(is_on_ring(keeper, code, walked, uprn, parent)?)
+    is_on_ring(keeper, code, walked, uprn, parent)
 }
 
 fn is_filled(keys: &[Key]) -> bool
@@ -107,7 +107,7 @@ fn is_tied<K: Shelf>(keeper: &mut K, code: Code, uprn: Uprn) -> Result<bool, She
     requires { IsJudging K.seen keeper.old code }
     ensures { ReadsView K.seen keeper.old keeper.new result (λ v b. b ≡ tied v uprn) }
 {
-    Ok(keeper.tied(code, uprn)?)
+    keeper.tied(code, uprn)
 }
 
 // Whether a BLPU is a part of another.
@@ -115,7 +115,7 @@ fn has_parts<K: Shelf>(keeper: &mut K, code: Code, uprn: Uprn) -> Result<bool, S
     requires { IsJudging K.seen keeper.old code }
     ensures { ReadsView K.seen keeper.old keeper.new result (λ v b. b ≡ has_children v uprn) }
 {
-    Ok(keeper.children(code, uprn)?)
+    keeper.children(code, uprn)
 }
 
 /// What a number breaks under which no BLPU stands. The keeper is asked only where nothing does.

@@ -9,6 +9,7 @@ ghost use Rattle.gaz_keeper.specs.Board.{reached, view_after};
 ghost use Rattle.gaz_rules.specs.CustodyRules.{holds_number, is_released_to, was_released};
 ghost use Rattle.gaz_rules.specs.Working.{IsJudging, ReadsContent, ReadsView, ReadsViews};
 
+use crate::rule;
 use gaz_changefile::Basis;
 use gaz_ids::{Code, Hop, Uprn};
 use gaz_keeper::{Shelf, ShelfFault};
@@ -48,10 +49,10 @@ fn release_rule(allotted: bool, custody: &Option<Custody>, hop: Hop) -> Option<u
         then (if hop == hop_of custody.now + 1 then None else Some 40) else Some 20) }
 {
     if !is_holding(allotted, custody) {
-        return Some(20);
+        return Some(rule::OUTSIDE);
     }
     if hop.number() != hop_of(custody) + 1 {
-        return Some(40);
+        return Some(rule::WRONG_HOP);
     }
     None
 }
@@ -109,7 +110,7 @@ fn basis_custody<K: Shelf>(
         → x ≡ custody_at (view_after content.board basis.custodian basis.volume) uprn) }
 {
     let volume = basis.volume.number();
-    Ok(keeper.custody_at(basis.custodian, volume, uprn)?)
+    keeper.custody_at(basis.custodian, volume, uprn)
 }
 
 // Whether a number was released to a custodian at a hop, in the view on which the first basis line
@@ -156,8 +157,8 @@ pub(crate) fn adopt_breach<K: Shelf>(
         then None else Some 42) else Some 41)) }
 {
     if !was_released(keeper, code, bases, adopt)? {
-        return Ok(Some(41));
+        return Ok(Some(rule::UNRELEASED));
     }
     let is_later = is_later(keeper, code, adopt.blpu.uprn, adopt.hop)?;
-    Ok(if is_later { None } else { Some(42) })
+    Ok(if is_later { None } else { Some(rule::STALE) })
 }

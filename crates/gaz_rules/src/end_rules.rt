@@ -14,6 +14,7 @@ use crate::key_faults::{KeyFaults, descriptor_faults, street_faults};
 use crate::known::Known;
 use crate::name_faults::{NameFaults, name_faults};
 use crate::rings::Walked;
+use crate::rule;
 use gaz_changefile::Basis;
 use gaz_ids::Code;
 use gaz_keeper::{Shelf, ShelfFault};
@@ -24,16 +25,16 @@ fn least(names: NameFaults, keys: KeyFaults) -> Option<u8>
     ensures { result ≡ first_broken (numbered names keys) }
 {
     let rules = [
-        (30, names.is_second),
-        (31, names.lacks_blpu || keys.leaves_ties),
-        (32, names.lacks_street),
-        (33, names.names_closed),
-        (34, names.lacks_descriptor || keys.leaves_lpi),
-        (35, keys.lacks_parent || keys.leaves_parts),
-        (36, keys.is_own_ancestor),
-        (37, names.names_past || keys.past_under_lpi),
-        (38, keys.lacks_own_street),
-        (39, keys.closed_under_lpi),
+        (rule::SECOND, names.is_second),
+        (rule::UNTIED, names.lacks_blpu || keys.leaves_ties),
+        (rule::LACKS_STREET, names.lacks_street),
+        (rule::NAMES_CLOSED, names.names_closed),
+        (rule::UNNAMED, names.lacks_descriptor || keys.leaves_lpi),
+        (rule::APART, keys.lacks_parent || keys.leaves_parts),
+        (rule::OWN_ANCESTOR, keys.is_own_ancestor),
+        (rule::OUT_OF_DATE, names.names_past || keys.past_under_lpi),
+        (rule::LACKS_OWN_STREET, keys.lacks_own_street),
+        (rule::CLOSED_UNDER_LPI, keys.closed_under_lpi),
     ];
     rules.iter().find(|rule| rule.1).map(|rule| rule.0)
 }
@@ -52,13 +53,13 @@ fn key_faults<K: Shelf>(
         → Knows v walked.new × (f ≡ key_faults v key.now)) }
 {
     match key {
-        Key::Street(usrn) => Ok(street_faults(keeper, code, *usrn, stored)?),
-        Key::Descriptor(usrn, lang) => Ok(descriptor_faults(keeper, code, *usrn, *lang, stored)?),
+        Key::Street(usrn) => street_faults(keeper, code, *usrn, stored),
+        Key::Descriptor(usrn, lang) => descriptor_faults(keeper, code, *usrn, *lang, stored),
         Key::Blpu(uprn) => {
             let Some(blpu) = blpu_in(stored) else {
-                return Ok(gone_faults(keeper, code, *uprn, stored)?);
+                return gone_faults(keeper, code, *uprn, stored);
             };
-            Ok(blpu_faults(keeper, code, walked, *uprn, blpu)?)
+            blpu_faults(keeper, code, walked, *uprn, blpu)
         }
         Key::Xref(_) | Key::Lpi(_) => Ok(KeyFaults::none()),
     }

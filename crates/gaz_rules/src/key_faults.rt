@@ -70,7 +70,7 @@ fn has_lpi_on<K: Shelf>(
     requires { IsJudging K.seen keeper.old code }
     ensures { ReadsView K.seen keeper.old keeper.new result (λ v b. b ≡ approved_on v usrn lang) }
 {
-    Ok(keeper.approved_on(code, usrn, lang)?)
+    keeper.approved_on(code, usrn, lang)
 }
 
 // Whether a street is closed and an approved LPI is on it.
@@ -88,7 +88,7 @@ fn closed_under_lpi<K: Shelf>(
     if !StreetState::of(stored).is_closed {
         return Ok(false);
     }
-    Ok(has_lpi_on(keeper, code, usrn, None)?)
+    has_lpi_on(keeper, code, usrn, None)
 }
 
 /// What a street breaks.

@@ -37,9 +37,7 @@ impl LastStreet {
         ensures { (v : View) (others : List (ℕ × View)) → Recalls v others self.now
             → IfSome result (λ f. f ≡ street_faults v others usrn lang) }
     {
-        let Some(answer) = self.answer else {
-            return None;
-        };
+        let answer = self.answer?;
         if answer.usrn == usrn && answer.lang == lang {
             return Some(answer.faults);
         }

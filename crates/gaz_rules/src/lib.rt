@@ -14,6 +14,7 @@ mod name_faults;
 mod performing;
 mod record_rules;
 mod rings;
+pub mod rule;
 mod streets;
 
 pub use judging::judge;

@@ -150,8 +150,8 @@ pub(crate) fn name_faults<K: Shelf>(
         → Recalls view others last.new × (f ≡ name_faults view others key.now)) }
 {
     match item_in(stored) {
-        Some(Item::Lpi(lpi)) => Ok(lpi_faults(keeper, code, bases, last, key, lpi)?),
-        Some(Item::Xref(xref)) => Ok(xref_faults(keeper, code, xref.uprn)?),
+        Some(Item::Lpi(lpi)) => lpi_faults(keeper, code, bases, last, key, lpi),
+        Some(Item::Xref(xref)) => xref_faults(keeper, code, xref.uprn),
         _ => Ok(NameFaults::of_blpu(false)),
     }
 }

@@ -11,6 +11,7 @@ ghost use Rattle.gaz_rules.specs.Working.{IsJudging, ReadsView, ReadsViews};
 
 use crate::custody_rules::{adopt_breach, holds_number, release_breach};
 use crate::key_faults::is_there;
+use crate::rule;
 use gaz_changefile::{Action, Basis, Change};
 use gaz_ids::Code;
 use gaz_keeper::{Shelf, ShelfFault};
@@ -58,7 +59,7 @@ fn insert_breach<K: Shelf>(keeper: &mut K, code: Code, key: &Key) -> Result<Opti
         (λ view r. r ≡ (if was_used view key.now then Some 21 else None)) }
 {
     if keeper.ever(code, key)? {
-        return Ok(Some(21));
+        return Ok(Some(rule::USED_AGAIN));
     }
     Ok(None)
 }
@@ -76,9 +77,9 @@ fn update_breach<K: Shelf>(
         (map.get view.items key.now) (Some 22)) }
 {
     let Some(old) = keeper.current(code, key)? else {
-        return Ok(Some(22));
+        return Ok(Some(rule::MISSING));
     };
-    Ok(if is_moved(&old, item) { Some(24) } else { None })
+    Ok(is_moved(&old, item).then_some(rule::MOVES_WHAT_STAYS))
 }
 
 // The least rule that a deletion of this item breaks, its number being the custodian's own.
@@ -93,9 +94,9 @@ fn delete_breach<K: Shelf>(
         ≡ (if holds view key.now then (if stays item.now then Some 23 else None) else Some 22)) }
 {
     if !is_there(keeper, code, key)? {
-        return Ok(Some(22));
+        return Ok(Some(rule::MISSING));
     }
-    Ok(if stays(item) { Some(23) } else { None })
+    Ok(stays(item).then_some(rule::TAKES_WHAT_STAYS))
 }
 
 // The least record rule that a change of an entry breaks, its number being the custodian's own.
@@ -112,9 +113,9 @@ fn action_breach<K: Shelf>(
 {
     let key = key_of(&change.item);
     match change.action {
-        Action::Insert => Ok(insert_breach(keeper, code, &key)?),
-        Action::Update => Ok(update_breach(keeper, code, &key, &change.item)?),
-        Action::Delete => Ok(delete_breach(keeper, code, &key, &change.item)?),
+        Action::Insert => insert_breach(keeper, code, &key),
+        Action::Update => update_breach(keeper, code, &key, &change.item),
+        Action::Delete => delete_breach(keeper, code, &key, &change.item),
     }
 }
 
@@ -132,9 +133,9 @@ fn entry_breach<K: Shelf>(
         change.now.action change.now.item)) }
 {
     if is_outside(keeper, register, code, &change.item)? {
-        return Ok(Some(20));
+        return Ok(Some(rule::OUTSIDE));
     }
-    Ok(action_breach(keeper, code, change)?)
+    action_breach(keeper, code, change)
 }
 
 /// The least record rule that a change breaks on the working view of its custodian, 20 to 24 and 40
@@ -152,8 +153,8 @@ pub(crate) fn breach<K: Shelf>(
         change.now.action change.now.item)) }
 {
     match change.item.as_item() {
-        Item::Release(release) => Ok(release_breach(keeper, register, code, release)?),
-        Item::Adopt(adopt) => Ok(adopt_breach(keeper, code, bases, adopt)?),
-        _ => Ok(entry_breach(keeper, register, code, change)?),
+        Item::Release(release) => release_breach(keeper, register, code, release),
+        Item::Adopt(adopt) => adopt_breach(keeper, code, bases, adopt),
+        _ => entry_breach(keeper, register, code, change),
     }
 }

@@ -19,9 +19,9 @@ use Rattle.gaz_kept.specs.Stands.{Stands}
 use Rattle.gaz_kept.proofs.Migrated.{migration_stands}
 use Rattle.gaz_kept.proofs.MetaRows.{create_opens}
 use Rattle.gaz_kept.proofs.Stands.{tables_stand}
+use Rattle.gaz_calls.specs.Remembered.{AreSo, Remembered}
 use Rattle.gaz_store.specs.Migrating.{IsMoved}
 use Rattle.gaz_store.specs.Opened.{IsMade, IsOpened}
-use Rattle.gaz_store.specs.Remembered.{AreSo, Remembered}
 use Rattle.gaz_store.specs.Store.{StoreStands, seen_beside}
 use Rattle.gaz_store.specs.declared.progress.Judging.{Judging}
 use Rattle.gaz_store.specs.declared.progress.Judging.TheVariants.{Idle}

@@ -22,12 +22,12 @@ use Rattle.gaz_kept.specs.Stands.{Stands}
 use Rattle.gaz_kept.proofs.Boards.{board_reads}
 use Rattle.gaz_kept.proofs.Stands.{tables_stand}
 use Rattle.gaz_kept.proofs.SameTrees.{same_content}
-use Rattle.gaz_store.specs.Altering.{Alters, MayWrite, Writes}
-use Rattle.gaz_store.specs.Asking.{Tallies}
-use Rattle.gaz_store.specs.Remembered.{AreSo, Remembered}
-use Rattle.gaz_store.specs.Seen.{IsUnharmed, LeavesKept, MayLeave, StandsFor, full_at, left_lawful}
-use Rattle.gaz_store.specs.Writing.{Comes, IsNewIn, IsNextIn, RejectsNext, WhereSo}
-use Rattle.gaz_store.specs.declared.tables.Tables.{Tables}
+use Rattle.gaz_calls.specs.Altering.{Alters, MayWrite, Writes}
+use Rattle.gaz_calls.specs.Asking.{Tallies}
+use Rattle.gaz_calls.specs.Remembered.{AreSo, Remembered}
+use Rattle.gaz_calls.specs.Seen.{IsUnharmed, LeavesKept, MayLeave, StandsFor, full_at, left_lawful}
+use Rattle.gaz_calls.specs.Writing.{Comes, IsNewIn, IsNextIn, RejectsNext, WhereSo}
+use Rattle.gaz_calls.specs.declared.tables.Tables.{Tables}
 use Rattle.gaz_store.proofs.Lawful.{received_lawful, skipped_lawful}
 use Rattle.gaz_store.proofs.Whole.{kept_of, whole_then}
 use Rattle.gaz_store.proofs.Whose.{of_files}

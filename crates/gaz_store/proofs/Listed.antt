@@ -28,15 +28,20 @@ use Rattle.gaz_loaded.specs.Lives.{IsBehind, IsBy, Told}
 use Rattle.gaz_loaded.specs.Telling as listed
 use Rattle.gaz_loaded.specs.Telling.{AreAbove, AreNext, last_of, told}
 use Rattle.gaz_loaded.specs.declared.listed.Life.{Life}
-use Rattle.gaz_store.specs.Asking.{AsksTables}
-use Rattle.gaz_store.specs.Listing.{lives_kept, passages_kept, told_in, told_with}
-use Rattle.gaz_store.specs.Lives.{IsRowBehind, SaysLife, TellsLives, is_items}
+use Rattle.gaz_calls.specs.Asking.{AsksTables}
+use Rattle.gaz_calls.specs.Lives.{IsRowBehind, SaysLife, TellsLives, is_items}
+use Rattle.gaz_calls.specs.Volumes.{TellsVolumes}
+use Rattle.gaz_calls.specs.declared.tables.Tables.{Tables}
+use Rattle.gaz_calls.proofs.Taken.{empty_is}
+use Rattle.gaz_store.specs.Listing.{TablesRest, lives_kept, passages_kept, told_in, told_with}
 use Rattle.gaz_store.specs.Store.{seen_in}
-use Rattle.gaz_store.specs.Volumes.{TellsVolumes}
 use Rattle.gaz_store.specs.declared.progress.Judging.{Judging}
 use Rattle.gaz_store.specs.declared.store.Store.{Store}
-use Rattle.gaz_store.specs.declared.tables.Tables.{Tables}
-use Rattle.gaz_store.proofs.LivesTold.{tables_rest}
+
+-- after a call that only asks, the tables are as they were
+pub tables_rest : {S R : Type 0} {store : Ghosts S} {T : Type 0} (register : List ℕ) (old : Store S R store) (tables : Tables S store) (k : Judging) (r : Result T ShelfFault) (P : Database → T → Type 0)
+    → AsksTables old.tables tables r P → TablesRest register old (record old { tables = tables; judging = k })
+tables_rest register old tables k r P asks stood unharmed = asks.asks.rests unharmed stood.tables.kept.tables
 
 -- while the tables rest, they tell the same
 pub lives_rest : {S R : Type 0} {store : Ghosts S} {T : Type 0} (register : List ℕ) (old : Store S R store) (tables : Tables S store) (k : Judging) (r : Result T ShelfFault) (P : Database → T → Type 0)
@@ -58,18 +63,11 @@ has_got [] n x is = let wrong : None ≡ Some x = is in absurd (cc)
 has_got (y ∷ xs) zero x is = let same : Some y ≡ Some x = is in inl (cc)
 has_got (y ∷ xs) (suc n) x is = inr (has_got xs n x is)
 
-some_last : {X A : Type 0} (x : X) (xs : List X) → slice_get (x ∷ xs) (length xs) ≡ None → A
-some_last x [] none = not_none x refl none
-some_last x (y ∷ xs) none = some_last y xs none
-
-pub empty_is : {X : Type 0} (xs : List X) → last_of xs ≡ None → xs ≡ []
-empty_is [] none = refl
-empty_is (x ∷ xs) none = let e : length (x ∷ xs) - 1 ≡ length xs = omega arith in some_last x xs (ap (slice_get (x ∷ xs)) (sym e) ∙ none)
-
 -- ---- volumes
 
 pub volumes_listed : (files : Received) (c above : ℕ) (volumes : List ℕ) → TellsVolumes files c above volumes → AreAbove files c above volumes
 volumes_listed files c above volumes it = record {
+  only = λ v here. (it.higher v here, it.received v here);
   all = λ last v is more le some. it.complete v last some more (has_got volumes (length volumes - 1) last is) le;
   none = λ is v more some. it.ends (empty_is volumes is) v more some;
 }

@@ -2,7 +2,7 @@
 use Rattle.std.proofs.Common.{◌≡◌, Bool, true, Result, Ok, Err, OnOk}
 use Rattle.std.specs.Prelude.{IsTrue}
 use Rattle.sqlite.specs.State.{HasCleanDisk, State}
-use Rattle.gaz_store.specs.Seen.{IsUnharmed}
+use Rattle.gaz_calls.specs.Seen.{IsUnharmed}
 
 -- where it answered last
 pub open_where_sure : {T E : Type 0} (r : Result T E) (s : State) (sure : Bool) → OnOk r (sure ≡ true) → (sure ≡ true → HasCleanDisk s → IsTrue s.is_open) → OnOk r (HasCleanDisk s → IsUnharmed s)

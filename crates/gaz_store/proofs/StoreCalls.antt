@@ -14,18 +14,18 @@ use Rattle.gaz_keeper.specs.Keeper as keeper
 use Rattle.gaz_keeper.specs.Keeper.{Content, Enters, Goes, IsAtHand, IsNew, IsNotOpen, after_abandon, after_begin, after_keep, after_skip, with_received, with_working}
 use Rattle.gaz_keeper.specs.declared.fault.ShelfFault.{ShelfFault}
 use Rattle.gaz_kept.specs.Contents.{content_in}
-use Rattle.gaz_store.specs.Altering.{Writes}
-use Rattle.gaz_store.specs.Asking.{AsksTables, Fails, IsAnyway, Tallies}
+use Rattle.gaz_calls.specs.Altering.{Writes}
+use Rattle.gaz_calls.specs.Asking.{AsksTables, Fails, IsAnyway, Tallies}
+use Rattle.gaz_calls.specs.Remembered.{Remembered}
+use Rattle.gaz_calls.specs.Writing.{AppliesNext, Comes, IsNewIn, IsNextIn, RejectsNext, WhereSo}
+use Rattle.gaz_calls.specs.declared.tables.Tables.{Tables}
+use Rattle.gaz_calls.proofs.Answered.{failed_at_once}
 use Rattle.gaz_store.specs.Beside.{Turns}
-use Rattle.gaz_store.specs.Remembered.{Remembered}
 use Rattle.gaz_store.specs.Store.{cleared, progress_of, seen_beside, seen_in, working_of}
-use Rattle.gaz_store.specs.Writing.{AppliesNext, Comes, IsNewIn, IsNextIn, RejectsNext, WhereSo}
 use Rattle.gaz_store.specs.declared.judgement.Judgement.{Judgement}
 use Rattle.gaz_store.specs.declared.progress.Judging.{Judging}
 use Rattle.gaz_store.specs.declared.progress.Judging.TheVariants.{Idle, Open, Broken}
 use Rattle.gaz_store.specs.declared.store.Store.{Store}
-use Rattle.gaz_store.specs.declared.tables.Tables.{Tables}
-use Rattle.gaz_store.proofs.Answered.{failed_at_once}
 use Rattle.gaz_store.proofs.Entering.{receive_enters, seen_of, skip_enters}
 use Rattle.gaz_store.proofs.StoreReads.{left_cleared, not_broken, on_ok_all}
 use Rattle.gaz_store.proofs.StoreGoes.{goes_idle, goes_kept, goes_not_kept, goes_on, goes_open, goes_wrong}

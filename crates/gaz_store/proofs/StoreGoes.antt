@@ -37,13 +37,13 @@ use Rattle.gaz_kept.specs.Versions.{histories_in}
 use Rattle.gaz_kept.proofs.Boards.{board_reads}
 use Rattle.gaz_kept.proofs.KeepStands.{keep_stands}
 use Rattle.gaz_kept.proofs.SameTrees.{same_content}
-use Rattle.gaz_store.specs.Altering.{Alters, MayWrite}
-use Rattle.gaz_store.specs.Asking.{Asks, Tallies}
+use Rattle.gaz_calls.specs.Altering.{Alters, MayWrite}
+use Rattle.gaz_calls.specs.Asking.{Asks, Tallies}
+use Rattle.gaz_calls.specs.Remembered.{AreSo, Remembered}
+use Rattle.gaz_calls.specs.Seen.{IsUnharmed, LeavesKept, MayLeave, StandsFor}
+use Rattle.gaz_calls.specs.Writing.{AppliesNext, IsNextIn, WhereSo}
 use Rattle.gaz_store.specs.Beside.{Makes, Turns}
-use Rattle.gaz_store.specs.Remembered.{AreSo, Remembered}
-use Rattle.gaz_store.specs.Seen.{IsUnharmed, LeavesKept, MayLeave, StandsFor}
 use Rattle.gaz_store.specs.Store.{IsUnderWay, StoreStands, seen_beside, view_made, working_of}
-use Rattle.gaz_store.specs.Writing.{AppliesNext, IsNextIn, WhereSo}
 use Rattle.gaz_store.specs.declared.judgement.Judgement.{Judgement}
 use Rattle.gaz_store.specs.declared.progress.Judging.{Judging}
 use Rattle.gaz_store.specs.declared.progress.Judging.TheVariants.{Idle, Open, Broken}

@@ -26,18 +26,18 @@ use Rattle.gaz_kept.specs.Versions.{view_in}
 use Rattle.gaz_kept.specs.Kept.{IsKept}
 use Rattle.gaz_kept.specs.Opening.{IsOf}
 use Rattle.gaz_kept.specs.LastViews.{last_in}
-use Rattle.gaz_store.specs.Asking.{Asks, AsksTables, Recalls, Tallies}
+use Rattle.gaz_calls.specs.Asking.{Asks, AsksTables, Recalls, Tallies}
+use Rattle.gaz_calls.specs.Remembered.{AreSo, Remembered, held_in}
+use Rattle.gaz_calls.specs.Seen.{IsUnharmed}
+use Rattle.gaz_calls.specs.declared.tables.Tables.{Tables}
+use Rattle.gaz_calls.proofs.Answered.{asked_more}
+use Rattle.gaz_calls.proofs.Composing.{faulted}
 use Rattle.gaz_store.specs.Beside.{Beside}
-use Rattle.gaz_store.specs.Remembered.{AreSo, Remembered, held_in}
-use Rattle.gaz_store.specs.Seen.{IsUnharmed}
 use Rattle.gaz_store.specs.Store.{IsElsewhere, IsOfView, StandsBeside, StoreStands, cleared, progress_of, seen_beside, seen_in, view_made, working_of}
 use Rattle.gaz_store.specs.declared.judgement.Judgement.{Judgement}
 use Rattle.gaz_store.specs.declared.progress.Judging.{Judging}
 use Rattle.gaz_store.specs.declared.progress.Judging.TheVariants.{Idle, Open, Broken}
 use Rattle.gaz_store.specs.declared.store.Store.{Store}
-use Rattle.gaz_store.specs.declared.tables.Tables.{Tables}
-use Rattle.gaz_store.proofs.Answered.{asked_more}
-use Rattle.gaz_store.proofs.Composing.{faulted}
 use Rattle.gaz_store.proofs.Whole.{whole_still}
 use Rattle.gaz_kept.proofs.LawfulViews.{board_view, last_is}
 

@@ -25,8 +25,8 @@ use Rattle.gaz_ids.specs.declared.lang.Lang.{Lang}
 use Rattle.sqlite_rules.specs.Lists.{Has}
 use Rattle.std.specs.List.{list_any}
 use Rattle.gaz_kept.proofs.Rising.{entry_is}
-use Rattle.gaz_store.proofs.StreetRows.{any_same}
-use Rattle.gaz_store.specs.Streets.{is_left_on, is_left_part, is_left_tied, leaves}
+use Rattle.gaz_calls.proofs.StreetRows.{any_same}
+use Rattle.gaz_calls.specs.Streets.{is_left_on, is_left_part, is_left_tied, leaves}
 use Rattle.gaz_overlay.specs.Over.{KeyView, Make}
 use Rattle.gaz_overlay.specs.Questions.{LaidAnswers, both, keys_with, property_at}
 use Rattle.gaz_overlay.specs.Rows.{AreTold, HasCurrent, HistoryRow}

@@ -8,7 +8,7 @@ use Rattle.gaz_tables.specs.Schema.{meta}
 use Rattle.gaz_tables.specs.Tables.{rows_of}
 use Rattle.gaz_kept.specs.Kept.{IsKept}
 use Rattle.gaz_kept.specs.Opening.{IsOf}
-use Rattle.gaz_store.specs.Seen.{IsKeptOf, LeavesKept}
+use Rattle.gaz_calls.specs.Seen.{IsKeptOf, LeavesKept}
 
 -- the trees of a store of a register are those of one
 pub kept_of : (register : List ℕ) (db : Database) (trees : Trees) → trees ≡ db.trees → IsKept db → IsOf register (rows_of db meta) → AreTreesOf (IsKeptOf register) trees

@@ -13,7 +13,7 @@ use Rattle.gaz_kept.specs.Contents.{content_in}
 use Rattle.gaz_kept.specs.Kept.{IsKept}
 use Rattle.gaz_kept.specs.Opening.{IsOf, Rests}
 use Rattle.gaz_kept.specs.declared.refusal.StoreRefusal.{StoreRefusal}
-use Rattle.gaz_store.specs.Seen.{LeavesKept}
+use Rattle.gaz_calls.specs.Seen.{LeavesKept}
 use Rattle.gaz_store.specs.declared.store.Store.{Store}
 
 -- of a database that has room, as a store of this register, over an open connection: nothing is

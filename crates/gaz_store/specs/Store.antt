@@ -10,9 +10,9 @@ use Rattle.gaz_keeper.specs.Keeper.{IsAtHand, Progress, Seen}
 use Rattle.gaz_overlay.specs.Laid.{laid}
 use Rattle.gaz_kept.specs.Contents.{content_in}
 use Rattle.gaz_kept.specs.LastViews.{last_in}
+use Rattle.gaz_calls.specs.Remembered.{Remembered}
+use Rattle.gaz_calls.specs.Seen.{IsUnharmed, LeavesKept, MayLeave, StandsFor, full_at, left_lawful}
 use Rattle.gaz_store.specs.Beside.{Beside, Makes}
-use Rattle.gaz_store.specs.Remembered.{Remembered}
-use Rattle.gaz_store.specs.Seen.{IsUnharmed, LeavesKept, MayLeave, StandsFor, full_at, left_lawful}
 use Rattle.gaz_store.specs.declared.judgement.Judgement.{Judgement}
 use Rattle.gaz_store.specs.declared.progress.Judging.{Judging}
 use Rattle.gaz_store.specs.declared.progress.Judging.TheVariants.{Idle, Open, Broken}

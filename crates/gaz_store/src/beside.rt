@@ -6,11 +6,11 @@ ghost use Rattle.gaz_overlay.specs.Changes.{is_touched};
 ghost use Rattle.gaz_views.specs.View.{custody_at, was_used};
 ghost use Rattle.gaz_views.specs.Words.{approved_of, approved_on, first_of, has_children};
 ghost use Rattle.gaz_views.specs.Words.{property_of, tied};
-ghost use Rattle.gaz_store.specs.Asking.{AsksTables};
+ghost use Rattle.gaz_calls.specs.Asking.{AsksTables};
 ghost use Rattle.gaz_store.specs.Beside.{Beside};
 
 use crate::judgement::Judgement;
-use crate::tables::Tables;
+use gaz_calls::Tables;
 use gaz_ids::{Lang, Uprn, Usrn};
 use gaz_keeper::ShelfFault;
 use gaz_records::{Key, Kind, SharedItem};
@@ -61,7 +61,7 @@ impl Judgement {
             (λ db keys. Beside db self.now (λ w. keys.items ≡ approved_of w uprn)) }
     {
         let last = tables.approved_of(self.code, uprn)?;
-        match self.changes.approved_of(tables.alloc, &last, uprn) {
+        match self.changes.approved_of(tables.alloc(), &last, uprn) {
             Ok(keys) => Ok(keys),
             Err(_) => Err(ShelfFault::Memory),
         }

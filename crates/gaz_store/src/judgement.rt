@@ -5,11 +5,12 @@ ghost use Rattle.gaz_records.specs.Items.{is_entry};
 ghost use Rattle.gaz_records.specs.Keys.{key_of};
 ghost use Rattle.gaz_views.specs.Numbered.{as_blpu, with_adopted};
 ghost use Rattle.gaz_views.specs.View.{with_item, with_release, without_key};
-ghost use Rattle.gaz_store.specs.Asking.{AsksTables};
+ghost use Rattle.gaz_calls.specs.Asking.{AsksTables};
+ghost use Rattle.gaz_calls.specs.Passing.{MayKnow, knows_none};
 ghost use Rattle.gaz_store.specs.Beside.{Turns};
-ghost use Rattle.gaz_store.specs.Passing.{IsToldSince, MayKnow, knows_none};
+ghost use Rattle.gaz_store.specs.Beside.{IsToldSince};
 
-use crate::tables::Tables;
+use gaz_calls::Tables;
 use gaz_ids::{Code, Hop, Uprn};
 use gaz_keeper::ShelfFault;
 use gaz_kept::passages::born_of;

@@ -6,10 +6,11 @@ ghost use Rattle.gaz_loaded.specs.Passing as listed_passages;
 ghost use Rattle.gaz_loaded.specs.Telling.{AreEntries};
 ghost use Rattle.gaz_tables.specs.Schema.{version2};
 ghost use Rattle.gaz_tables.specs.Tables.{rows_of};
+ghost use Rattle.gaz_calls.specs.Lives.{TellsLives};
+ghost use Rattle.gaz_calls.specs.Volumes.{TellsVolumes};
 ghost use Rattle.gaz_store.specs.Listing.{lives_kept, passages_kept};
-ghost use Rattle.gaz_store.specs.Lives.{TablesRest, TellsLives, database_of};
+ghost use Rattle.gaz_store.specs.Listing.{TablesRest, database_of};
 ghost use Rattle.gaz_store.specs.Store.{seen_in};
-ghost use Rattle.gaz_store.specs.Volumes.{TellsVolumes};
 
 use crate::naming::OfRegister;
 use crate::store::Store;

@@ -3,12 +3,12 @@ ghost use Rattle.std.specs.Prelude.{◌≡◌, IfNone, IfSome, OnErr};
 ghost use Rattle.sqlite.specs.Effect.{Database};
 ghost use Rattle.gaz_views.specs.View.{custody_at, was_used};
 ghost use Rattle.gaz_views.specs.Words.{tied};
-ghost use Rattle.gaz_store.specs.Asking.{AsksTables};
+ghost use Rattle.gaz_calls.specs.Asking.{AsksTables};
 ghost use Rattle.gaz_store.specs.Store.{IsElsewhere, IsOfView, StandsBeside, cleared, progress_of};
 ghost use Rattle.gaz_store.specs.Store.{working_of};
 
 use crate::judgement::Judgement;
-use crate::tables::Tables;
+use gaz_calls::Tables;
 use gaz_ids::{Code, Uprn};
 use gaz_keeper::ShelfFault;
 use gaz_records::Key;

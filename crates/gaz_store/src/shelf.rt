@@ -122,7 +122,7 @@ impl<S: Alter, R: OfRegister> Shelf for Store<S, R> {
     }
 
     fn begin(&mut self, code: Code) -> Result<(), ShelfFault> {
-        let judgement = Judgement::new(self.tables.alloc, self.seed, code);
+        let judgement = Judgement::new(self.tables.alloc(), self.seed, code);
         self.judging = Judging::Open(judgement);
         Ok(())
     }

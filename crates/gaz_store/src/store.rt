@@ -1,11 +1,11 @@
 //! The keeper in the tables of a database.
 ghost use Rattle.std.specs.Prelude.{◌≡◌, false, List};
 ghost use Rattle.sqlite.specs.Order.{Row};
-ghost use Rattle.gaz_store.specs.Remembered.{AreSo};
+ghost use Rattle.gaz_calls.specs.Remembered.{AreSo};
 
 use crate::naming::OfRegister;
 use crate::progress::Judging;
-use crate::tables::Tables;
+use gaz_calls::Tables;
 use gaz_ledger::Seed;
 use sqlite::{Alter, Connection};
 use std::alloc::Global;

@@ -3,19 +3,19 @@ use Rattle.std.proofs.Common.{◌≡◌, ◌∙◌, ◌≤◌, ◌<◌, ◌+◌,
 use Rattle.std.specs.List.{find}
 use Rattle.std.specs.FinMap as finite
 use Rattle.sqlite_rules.specs.Lists.{Has}
-use Rattle.gaz_register.specs.Registers.{CustodianValue, RegisterValue, knows}
+use Rattle.gaz_register.specs.Registers.{CustodianValue, Owners, RegisterValue, knows}
 use Rattle.gaz_keeper.specs.Board.{Board, empty_board, reached}
 use Rattle.gaz_keeper.specs.Keeper.{Seen}
 use Rattle.gaz_keeper.specs.Received.{Received}
 use Rattle.gaz_hub.specs.Hubs.{AreKnown, door_of}
-use Rattle.gaz_hub.specs.Standing.{IsPartial, Register}
+use Rattle.gaz_hub.specs.Standing.{IsPartial}
 use Rattle.gaz_hub.specs.Step.{Door, blocks}
 use Rattle.gaz_hub.proofs.Orders.{empty_lawful, leads_lawful}
 use Rattle.gaz_loaded.specs.Loading.{IsOfThese}
 use Rattle.gaz_stored.specs.Filling.{CanBeMirrored, codes_of}
 
 -- a volume that is judged was received
-judged_came : (G : Register) (F : Received) (B : Board) (c volume : ℕ) → IsPartial G F B → 1 ≤ volume → volume ≤ reached B c → is_some (finite.get F (c, volume)) ≡ true
+judged_came : (G : Owners) (F : Received) (B : Board) (c volume : ℕ) → IsPartial G F B → 1 ≤ volume → volume ≤ reached B c → is_some (finite.get F (c, volume)) ≡ true
 judged_came G F B c volume partial low high =
     let lawful = leads_lawful G F empty_board partial.order B partial.leads (empty_lawful G F) in
     let below : volume - 1 < reached B c = omega arith in

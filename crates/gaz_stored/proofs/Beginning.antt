@@ -10,9 +10,9 @@ use Rattle.gaz_keeper.specs.Keeper.{Content, after_stop}
 use Rattle.gaz_tables.specs.Creating.{HasRoom}
 use Rattle.gaz_kept.specs.Contents.{content_in}
 use Rattle.gaz_kept.proofs.SameTrees.{same_content}
+use Rattle.gaz_calls.specs.Seen.{IsUnharmed}
 use Rattle.gaz_store.proofs.Whole.{kept_of}
 use Rattle.gaz_store.specs.Opened.{IsMade}
-use Rattle.gaz_store.specs.Seen.{IsUnharmed}
 use Rattle.gaz_store.specs.Store.{seen_in}
 use Rattle.gaz_store.specs.declared.store.Store.{Store}
 use Rattle.gaz_hub.specs.Hubs.{MayHave, door_of, state_of}

@@ -11,7 +11,7 @@ use Rattle.gaz_register.specs.Registers.{IsRegister, RegisterValue}
 use Rattle.gaz_register.specs.Texts.{register_text}
 use Rattle.gaz_register.proofs.Grown.{extends-composes}
 use Rattle.gaz_register.proofs.Telling.{texts-tell}
-use Rattle.gaz_keeper.specs.Received.{Received}
+use Rattle.gaz_keeper.specs.Received.{HasAllOf, Received}
 use Rattle.gaz_tables.specs.Metas.{register_of}
 use Rattle.gaz_tables.specs.Schema.{meta}
 use Rattle.gaz_tables.specs.Tables.{rows_of}
@@ -22,7 +22,6 @@ use Rattle.gaz_store.specs.Opened.{IsRefused}
 use Rattle.gaz_store.specs.declared.store.Store.{Store}
 use Rattle.gaz_hub.specs.Growth.{GrownRun, Period, last_register}
 use Rattle.gaz_hub.specs.Hubs.{door_of}
-use Rattle.gaz_hub.specs.Standing.{HasAllOf}
 use Rattle.gaz_hub.specs.Step.{HubState}
 use Rattle.gaz_hub.proofs.Growing.{every_grown_run_holds, growth_keeps_holds}
 use Rattle.gaz_hub.proofs.Receiving.{received_more, run_has_all, run_received}

@@ -17,13 +17,14 @@ use Rattle.gaz_kept.specs.Kept.{IsKept}
 use Rattle.gaz_kept.specs.Opening.{IsOf}
 use Rattle.gaz_kept.specs.Rewriting.{Registers}
 use Rattle.gaz_kept.proofs.Rewritten.{rewrites_stand}
-use Rattle.gaz_store.specs.Altering.{MayWrite}
-use Rattle.gaz_store.specs.Growing.{KeepsContent, SparesUngrown, TellsGrowth, TellsRegisters, ToldOf, WritesRegister, as_kept, register_then}
-use Rattle.gaz_store.proofs.Grown.{growth_is}
-use Rattle.gaz_store.specs.Seen.{IsUnharmed}
+use Rattle.gaz_calls.specs.Altering.{MayWrite}
+use Rattle.gaz_calls.specs.Growing.{SparesUngrown, TellsGrowth, TellsRegisters, ToldOf, as_kept, register_then}
+use Rattle.gaz_calls.proofs.Grown.{growth_is}
+use Rattle.gaz_calls.specs.Seen.{IsUnharmed}
+use Rattle.gaz_calls.specs.declared.growing.ExtendFault.{ExtendFault}
+use Rattle.gaz_calls.specs.declared.growing.ExtendFault.TheVariants.{OtherRegister, RemovedCustodian, ChangedBlocks, Fault, Memory}
+use Rattle.gaz_store.specs.Extending.{KeepsContent, WritesRegister}
 use Rattle.gaz_store.specs.Store.{seen_in}
-use Rattle.gaz_store.specs.declared.growing.ExtendFault.{ExtendFault}
-use Rattle.gaz_store.specs.declared.growing.ExtendFault.TheVariants.{OtherRegister, RemovedCustodian, ChangedBlocks, Fault, Memory}
 use Rattle.gaz_store.specs.declared.store.Store.{Store}
 use Rattle.gaz_kept.proofs.SameTrees.{same_content, same_kept, same_rows}
 use Rattle.gaz_hub.specs.Hubs.{AreKnown, door_of, state_of}

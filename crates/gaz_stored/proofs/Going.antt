@@ -8,7 +8,7 @@ use Rattle.gaz_register.specs.Texts.{register_text}
 use Rattle.gaz_views.specs.View.{empty_view}
 use Rattle.gaz_keeper.specs.Keeper.{Content, Seen, after_stop}
 use Rattle.gaz_kept.specs.Contents.{content_in}
-use Rattle.gaz_store.specs.Seen.{IsUnharmed, kept_by_trees}
+use Rattle.gaz_calls.specs.Seen.{IsUnharmed, kept_by_trees}
 use Rattle.gaz_store.specs.Store.{seen_in}
 use Rattle.gaz_store.specs.declared.store.Store.{Store}
 use Rattle.gaz_hub.specs.Found.{HasFilesOf}

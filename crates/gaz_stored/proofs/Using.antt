@@ -9,12 +9,12 @@ use Rattle.gaz_register.specs.Texts.{register_text}
 use Rattle.gaz_keeper.specs.Keeper.{Seen}
 use Rattle.gaz_tables.specs.Creating.{HasRoom}
 use Rattle.gaz_kept.specs.Opening.{Judges, Tells}
+use Rattle.gaz_calls.specs.Seen.{IsUnharmed}
+use Rattle.gaz_calls.specs.declared.tables.Tables.{Tables}
 use Rattle.gaz_store.specs.Opened.{IsMade, IsOpened}
-use Rattle.gaz_store.specs.Seen.{IsUnharmed}
 use Rattle.gaz_store.specs.Store.{seen_beside, seen_in}
 use Rattle.gaz_store.specs.declared.progress.Judging.{Judging}
 use Rattle.gaz_store.specs.declared.store.Store.{Store}
-use Rattle.gaz_store.specs.declared.tables.Tables.{Tables}
 use Rattle.gaz_hub.specs.Hubs.{Runs, door_of}
 use Rattle.gaz_hub.specs.Step.{Command, Response, new_hub}
 use Rattle.gaz_hub.proofs.HubRuns.{runs_none}

@@ -6,9 +6,9 @@ use Rattle.sqlite.specs.Effect.{Database}
 use Rattle.sqlite.specs.Held.{Held, state}
 use Rattle.sqlite_trees.specs.declared.store.Store.{Ghosts}
 use Rattle.gaz_register.specs.Registers.{IsRegister, RegisterValue}
+use Rattle.gaz_calls.specs.Seen.{IsUnharmed}
+use Rattle.gaz_calls.specs.WorkedGrowing.{county, town}
 use Rattle.gaz_store.specs.Opened.{IsRefused}
-use Rattle.gaz_store.specs.Seen.{IsUnharmed}
-use Rattle.gaz_store.specs.WorkedGrowing.{county, town}
 use Rattle.gaz_store.specs.declared.store.Store.{Store}
 use Rattle.gaz_hub.specs.Growth.{GrownRun, Period}
 use Rattle.gaz_hub.specs.Step.{Command, Pose, Response}

@@ -12,9 +12,9 @@ use Rattle.gaz_tables.specs.Schema.{meta}
 use Rattle.gaz_tables.specs.Stores.{HasTables}
 use Rattle.gaz_tables.specs.Tables.{rows_of}
 use Rattle.gaz_kept.specs.Opening.{IsOf}
-use Rattle.gaz_store.specs.Growing.{TellsGrowth, ToldOf, register_then}
-use Rattle.gaz_store.specs.Seen.{IsUnharmed}
-use Rattle.gaz_store.specs.declared.growing.ExtendFault.{ExtendFault}
+use Rattle.gaz_calls.specs.Growing.{TellsGrowth, ToldOf, register_then}
+use Rattle.gaz_calls.specs.Seen.{IsUnharmed}
+use Rattle.gaz_calls.specs.declared.growing.ExtendFault.{ExtendFault}
 use Rattle.gaz_store.specs.declared.store.Store.{Store}
 use Rattle.gaz_stored.specs.Runs.{StandForRun, hub_in}
 use Rattle.gaz_stored.specs.Stopping.{LeavesItself, MayBeLeft}

@@ -19,8 +19,8 @@ use Rattle.gaz_kept.specs.declared.refusal.StoreRefusal.TheVariants.{BadSchema}
 use Rattle.gaz_hub.specs.Hubs.{AreKnown, door_of, state_of}
 use Rattle.gaz_hub.specs.Standing.{IsPartial}
 use Rattle.gaz_hub.specs.Step.{HubState}
+use Rattle.gaz_calls.specs.Seen.{IsUnharmed}
 use Rattle.gaz_store.specs.Opened.{IsRefused}
-use Rattle.gaz_store.specs.Seen.{IsUnharmed}
 use Rattle.gaz_stored.specs.Runs.{IsStoreOf, hub_in}
 use Rattle.gaz_stored.specs.Stopping.{LeavesItself}
 use Rattle.gaz_stored.specs.declared.migrating.Migration.{Migration}

@@ -13,7 +13,7 @@ use Rattle.gaz_hub.specs.Stops.{HasAllTold, HasReceived}
 use Rattle.gaz_hub.specs.declared.answer.Answer.TheVariants.{Refused}
 use Rattle.gaz_hub.specs.declared.question.Question.TheVariants.{Settle}
 use Rattle.gaz_hub.specs.declared.refusal.Refusal.TheVariants.{NotReceived, ReceivedUnsettled}
-use Rattle.gaz_store.specs.Seen.{IsUnharmed}
+use Rattle.gaz_calls.specs.Seen.{IsUnharmed}
 use Rattle.gaz_stored.specs.Runs.{IsStoreOf, hub_in}
 
 -- ---- a run that is cut off

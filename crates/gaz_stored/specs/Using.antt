@@ -11,8 +11,8 @@ use Rattle.gaz_keeper.specs.declared.shelf.Shelf as keeper
 use Rattle.gaz_kept.specs.Opening.{Judges, Tells, Untouched, has_all}
 use Rattle.gaz_kept.specs.declared.refusal.StoreRefusal.{StoreRefusal}
 use Rattle.gaz_kept.specs.declared.refusal.StoreRefusal.TheVariants.{BadSchema}
+use Rattle.gaz_calls.specs.Seen.{IsUnharmed}
 use Rattle.gaz_store.specs.Opened.{IsOpened, IsRefused}
-use Rattle.gaz_store.specs.Seen.{IsUnharmed}
 use Rattle.gaz_store.specs.Store.{seen_in}
 use Rattle.gaz_store.specs.declared.store.Store.{Store}
 use Rattle.gaz_hub.specs.Step.{Command, Response}

@@ -1,7 +1,7 @@
 //! What a reader of the definitions may rely on.
 ghost use Rattle.sqlite.specs.Held.{Held, state};
+ghost use Rattle.gaz_calls.specs.Seen.{IsUnharmed};
 ghost use Rattle.gaz_store.specs.Opened.{IsRefused};
-ghost use Rattle.gaz_store.specs.Seen.{IsUnharmed};
 ghost use Rattle.gaz_stored.specs.CallExamples.{WorkedCalls};
 ghost use Rattle.gaz_stored.specs.Calls.{CallsAreOne};
 ghost use Rattle.gaz_stored.specs.Examples.{WorkedExamples};

@@ -1,5 +1,5 @@
 -- What stands in a view under a number.
-use Rattle.std.specs.Prelude.{ℕ, Option, Some, None}
+use Rattle.std.specs.Prelude.{ℕ, Bool, false, Option, Some, None, is_some}
 use Rattle.std.specs.Option.{option_and_then, option_map_or}
 use Rattle.std.specs.FinMap as map
 use Rattle.gaz_records.specs.Blpus.{BlpuValue}
@@ -22,6 +22,10 @@ as_blpu _ = None
 -- the street of this number
 abbrev pub street_at : View → ℕ → Option StreetValue
 street_at v usrn = option_and_then as_street (map.get v.items (key.Street usrn))
+
+-- that street is there and has an end date
+abbrev pub is_closed : View → ℕ → Bool
+is_closed v usrn = option_map_or (λ s. is_some s.end) (street_at v usrn) false
 
 -- the BLPU of this number
 abbrev pub blpu_at : View → ℕ → Option BlpuValue

@@ -3,8 +3,8 @@ use Rattle.std.specs.Prelude.{Result, Ok, Err}
 use Rattle.gaz_register.specs.declared.growth.GrowFault.TheVariants as growth
 use Rattle.gaz_kept.specs.declared.refusal.StoreRefusal.{StoreRefusal}
 use Rattle.gaz_kept.specs.declared.refusal.StoreRefusal.TheVariants as refusal
-use Rattle.gaz_store.specs.declared.growing.ExtendFault.{ExtendFault}
-use Rattle.gaz_store.specs.declared.growing.ExtendFault.TheVariants as fault
+use Rattle.gaz_calls.specs.declared.growing.ExtendFault.{ExtendFault}
+use Rattle.gaz_calls.specs.declared.growing.ExtendFault.TheVariants as fault
 use Rattle.gaz_stored.specs.declared.migrating.Migration.{Migration}
 use Rattle.gaz_stored.specs.declared.migrating.Migration.TheVariants as migration
 use Rattle.gaz_commands.specs.declared.printed.PrintedLine.TheVariants as printed

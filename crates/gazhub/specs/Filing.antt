@@ -20,9 +20,9 @@ use Rattle.gaz_tables.specs.Creating.{MayCreate}
 use Rattle.gaz_kept.specs.Opening.{Untouched, has_any, schema_number}
 use Rattle.gaz_kept.specs.declared.refusal.StoreRefusal.{StoreRefusal}
 use Rattle.gaz_kept.specs.declared.refusal.StoreRefusal.TheVariants.{BadSchema, Fault}
+use Rattle.gaz_calls.specs.declared.growing.ExtendFault.{ExtendFault}
 use Rattle.gaz_store.specs.Opened.{IsMade, IsRefused}
 use Rattle.gaz_store.specs.Store.{seen_in}
-use Rattle.gaz_store.specs.declared.growing.ExtendFault.{ExtendFault}
 use Rattle.gaz_store.specs.declared.store.Store.{Store}
 use Rattle.gaz_hub.specs.Step.{Command}
 use Rattle.gaz_stored.specs.Extending.{ExtendsOpened}

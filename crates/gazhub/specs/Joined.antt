@@ -13,9 +13,9 @@ use Rattle.gaz_register.specs.Registers.{IsRegister, RegisterValue}
 use Rattle.gaz_tables.specs.Creating.{HasRoom}
 use Rattle.gaz_kept.specs.declared.refusal.StoreRefusal.{StoreRefusal}
 use Rattle.gaz_kept.specs.declared.refusal.StoreRefusal.TheVariants.{Fault}
+use Rattle.gaz_calls.specs.Seen.{IsUnharmed}
+use Rattle.gaz_calls.specs.declared.growing.ExtendFault.{ExtendFault}
 use Rattle.gaz_store.specs.Opened.{IsRefused}
-use Rattle.gaz_store.specs.Seen.{IsUnharmed}
-use Rattle.gaz_store.specs.declared.growing.ExtendFault.{ExtendFault}
 use Rattle.gaz_hub.specs.Step.{Command, new_hub}
 use Rattle.gaz_commands.specs.declared.said.Said.{Said}
 use Rattle.gaz_stored.specs.Calls.{AreOneRun, Call, CameTo, CutOff, Grew, IsFoundAfter, Moved}

@@ -4,8 +4,8 @@ use Rattle.sqlite.specs.Files.{file_state, over_files}
 use Rattle.sqlite.specs.State.{HasCleanDisk}
 use Rattle.sqlite_disk.specs.declared.Disk as disk
 use Rattle.sqlite_disk.specs.declared.Files.{Files}
+use Rattle.gaz_calls.specs.Seen.{IsUnharmed}
 use Rattle.gaz_store.specs.Opened.{IsRefused}
-use Rattle.gaz_store.specs.Seen.{IsUnharmed}
 use Rattle.gaz_stored.specs.Calls.{Whole}
 use Rattle.gazhub.specs.Filing.{FailsToConnect, IfConnectionFails, OverFiles}
 use Rattle.gazhub.specs.Joined.{Declined, FileCall, FollowOn, IsGiven}

@@ -10,16 +10,16 @@ pub loop-n-init : goal.loop-n-init
 loop-n-init g c = (so_far_none _ _ _ _ _ _ _ _ c.requires.unread, refl)
 
 pub returns-in-Closed-clause-conversation : goal.returns-in-Closed-clause-conversation
-returns-in-Closed-clause-conversation g c = finishes _ _ _ _ _ _ _ _ _ _ _ _ c.finish.ensures.kept (ends_closed _ _ _ _ _ _ _ _ _ _ _ _ _ _ _ _ _ _ _ c.loop-n.invariant.0 c.loop-n-test.true (turn_at _ _ _ _ _ _ _ _ _ _ _ _ _ _ _ _ (ap door_of c.loop-n.invariant.1) c.in-Closed.ensures.turn)) c.finish.result c.finish.ensures.finished
+returns-in-Closed-clause-conversation g c = finishes _ _ _ _ _ _ _ _ _ _ _ _ c.finish.ensures.kept (ends_closed _ _ _ _ _ _ _ _ _ _ _ _ _ _ _ _ _ _ _ c.loop-n.invariant.0 c.loop-n-test.true (turn_at _ _ _ _ _ _ _ (ap door_of c.loop-n.invariant.1) c.in-Closed.ensures.turn)) c.finish.result c.finish.ensures.finished
 
 pub returns-in-Over-clause-conversation : goal.returns-in-Over-clause-conversation
-returns-in-Over-clause-conversation g c = ends_over _ _ _ _ _ _ _ _ _ _ _ _ _ _ _ _ _ _ _ c.loop-n.invariant.0 c.loop-n-test.true (turn_at _ _ _ _ _ _ _ _ _ _ _ _ _ _ _ _ (ap door_of c.loop-n.invariant.1) c.in-Over.ensures.turn)
+returns-in-Over-clause-conversation g c = ends_over _ _ _ _ _ _ _ _ _ _ _ _ _ _ _ _ _ _ _ c.loop-n.invariant.0 c.loop-n-test.true (turn_at _ _ _ _ _ _ _ (ap door_of c.loop-n.invariant.1) c.in-Over.ensures.turn)
 
 pub returns-in-Stopped-clause-conversation : goal.returns-in-Stopped-clause-conversation
-returns-in-Stopped-clause-conversation g c = stops _ _ _ _ _ _ _ _ _ _ _ _ _ _ _ _ _ _ _ c.loop-n.invariant.0 c.loop-n-test.true c.in-Stopped.cause (turn_at _ _ _ _ _ _ _ _ _ _ _ _ _ _ _ _ (ap door_of c.loop-n.invariant.1) c.in-Stopped.ensures.turn)
+returns-in-Stopped-clause-conversation g c = stops _ _ _ _ _ _ _ _ _ _ _ _ _ _ _ _ _ _ _ c.loop-n.invariant.0 c.loop-n-test.true c.in-Stopped.cause (turn_at _ _ _ _ _ _ _ (ap door_of c.loop-n.invariant.1) c.in-Stopped.ensures.turn)
 
 pub loop-n-preserved : goal.loop-n-preserved
-loop-n-preserved g c = (so_far_more _ _ _ _ _ _ _ _ _ _ _ _ _ _ _ _ _ _ _ c.loop-n.invariant.0 c.loop-n-test.true (turn_at _ _ _ _ _ _ _ _ _ _ _ _ _ _ _ _ (ap door_of c.loop-n.invariant.1) c.in-Answered.ensures.turn), c.in-Answered.ensures.register ∙ c.loop-n.invariant.1)
+loop-n-preserved g c = (so_far_more _ _ _ _ _ _ _ _ _ _ _ _ _ _ _ _ _ _ _ c.loop-n.invariant.0 c.loop-n-test.true (turn_at _ _ _ _ _ _ _ (ap door_of c.loop-n.invariant.1) c.in-Answered.ensures.turn), c.in-Answered.ensures.register ∙ c.loop-n.invariant.1)
 
 pub returns-clause-conversation : goal.returns-clause-conversation
 returns-clause-conversation g c = ends_most _ _ _ _ _ _ _ _ _ _ _ _ _ c.loop-n.invariant.0 (omega (arith, c.loop-n-test.false)) (omega (arith, c.loop-n.auto.n-end))

@@ -3,7 +3,8 @@ use Rattle.std.proofs.Common.{◌≡◌, None, sym, ◌∙◌, subst}
 use Rattle.std.specs.Option.{option_and_then}
 use Rattle.gaz_extract.specs.Lookups.{said_by}
 use Rattle.gaz_keeper.specs.Keeper.{Content}
-use Rattle.gaz_hub.specs.Owners.{holder_from, said_by_known}
+use Rattle.gaz_hub.specs.Chains.{holder_from}
+use Rattle.gaz_hub.specs.Owners.{said_by_known}
 use Rattle.gaz_hub.proofs.Following.{told_further}
 use Rattle.gaz_hub.proofs.Looks.{looks_then}
 use Rattle.gaz_hub.proofs.holding.ask_holder.Goals as goal

@@ -5,7 +5,7 @@ use Rattle.gaz_keeper.proofs.Keeping.{keeps_then}
 use Rattle.gaz_keeper.specs.Board.{last_view}
 use Rattle.gaz_keeper.specs.Keeper.{Content}
 use Rattle.gaz_views.specs.View.{custody_at}
-use Rattle.gaz_hub.specs.Following.{is_asked}
+use Rattle.gaz_hub.specs.Following.{as_asked}
 use Rattle.gaz_hub.proofs.Following.{found_here, found_never, found_next, found_nobody}
 use Rattle.gaz_hub.proofs.holding.holder_from.Goals as goal
 
@@ -20,7 +20,7 @@ returns-in-Here-clause-tells g c =
       right = λ stood fine.
           let mid = told.keeps.harm fine in
           found_here (λ d. custody_at (last_view was.content.board d) c.args.uprn) (λ d. d == c.args.owner) 10000 c.loop-turn._turn code (omega (arith, c.loop-turn-test.true))
-          (sym (ap is_asked c.in-Here.is) ∙ told.right (inv.keeps.stands stood mid) fine
+          (sym (ap as_asked c.in-Here.is) ∙ told.right (inv.keeps.stands stood mid) fine
           ∙ ap (λ (k : Content). asked (λ d. custody_at (last_view k.board d) c.args.uprn) (code == c.args.owner) (custody_at (last_view k.board code) c.args.uprn)) (inv.keeps.content stood mid))
           ∙ inv.left stood mid;
       counts = record { kept = let a = inv.counted in let b = told.counts.kept in omega arith; store = tt; trust = λ t. inv.trust (told.counts.trust t) };
@@ -37,7 +37,7 @@ returns-in-Nobody-clause-tells g c =
       right = λ stood fine.
           let mid = told.keeps.harm fine in
           found_nobody (λ d. custody_at (last_view was.content.board d) c.args.uprn) (λ d. d == c.args.owner) 10000 c.loop-turn._turn code (omega (arith, c.loop-turn-test.true))
-          (sym (ap is_asked c.in-Nobody.is) ∙ told.right (inv.keeps.stands stood mid) fine
+          (sym (ap as_asked c.in-Nobody.is) ∙ told.right (inv.keeps.stands stood mid) fine
           ∙ ap (λ (k : Content). asked (λ d. custody_at (last_view k.board d) c.args.uprn) (code == c.args.owner) (custody_at (last_view k.board code) c.args.uprn)) (inv.keeps.content stood mid))
           ∙ inv.left stood mid;
       counts = record { kept = let a = inv.counted in let b = told.counts.kept in omega arith; store = tt; trust = λ t. inv.trust (told.counts.trust t) };
@@ -57,7 +57,7 @@ loop-turn-preserved g c =
       left = λ stood fine.
           let mid = told.keeps.harm fine in
           found_next (λ d. custody_at (last_view was.content.board d) c.args.uprn) (λ d. d == c.args.owner) 10000 c.loop-turn._turn code c.in-Next.to (omega (arith, c.loop-turn-test.true))
-          (sym (ap is_asked c.in-Next.is) ∙ told.right (inv.keeps.stands stood mid) fine
+          (sym (ap as_asked c.in-Next.is) ∙ told.right (inv.keeps.stands stood mid) fine
           ∙ ap (λ (k : Content). asked (λ d. custody_at (last_view k.board d) c.args.uprn) (code == c.args.owner) (custody_at (last_view k.board code) c.args.uprn)) (inv.keeps.content stood mid))
           ∙ inv.left stood mid;
     }

@@ -4,7 +4,7 @@ use Rattle.gaz_chains.specs.Finding.{found}
 use Rattle.gaz_keeper.specs.Board.{last_view}
 use Rattle.gaz_keeper.specs.Keeper.{IsNotOpen, Keeps}
 use Rattle.gaz_views.specs.View.{custody_at}
-use Rattle.gaz_hub.specs.Owners.{holder_from}
+use Rattle.gaz_hub.specs.Chains.{holder_from}
 use Rattle.gaz_hub.proofs.holding.holder_from.Given as goal
 
 abbrev pub invariant-loop-turn : goal.invariant-loop-turn

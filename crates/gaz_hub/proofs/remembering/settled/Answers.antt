@@ -3,7 +3,7 @@ use Rattle.std.proofs.Common.{inl}
 use Rattle.gaz_hub.proofs.remembering.settled.Goals as goal
 
 pub read_kept-requires : goal.read_kept-requires
-read_kept-requires g c = record { callable = c.requires.callable _ c.in-Ok.ensures.tells.advances.idle }
+read_kept-requires g c = record { callable = c.requires.callable _ c.in_ok-settle_all.ensures.tells.advances.idle }
 
-pub returns-in-Ok-clause-calls : goal.returns-in-Ok-clause-calls
-returns-in-Ok-clause-calls g c = inl (record { mid = (c.settle_all.new.keeper, c.settle_all.new.waiters); settled = c.in-Ok.ensures.tells; called = c.read_kept.ensures.calls })
+pub returns-clause-calls : goal.returns-clause-calls
+returns-clause-calls g c = inl (record { mid = (c.settle_all.new.keeper, c.settle_all.new.waiters); settled = c.in_ok-settle_all.ensures.tells; called = c.read_kept.ensures.calls })

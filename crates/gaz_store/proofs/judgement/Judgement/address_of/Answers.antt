@@ -2,7 +2,7 @@ use Rattle.std.proofs.Common.{◌∙◌, ap}
 use Rattle.std.specs.FinMap as map
 use Rattle.std.specs.Option.{option_and_then}
 use Rattle.gaz_views.specs.Words.{first_of}
-use Rattle.gaz_store.proofs.Answered.{asked_more}
+use Rattle.gaz_calls.proofs.Answered.{asked_more}
 use Rattle.gaz_store.proofs.judgement.Judgement.address_of.Goals as goal
 
 pub returns : goal.returns

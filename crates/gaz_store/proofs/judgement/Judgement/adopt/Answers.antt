@@ -2,8 +2,8 @@ use Rattle.std.proofs.Common.{◌≡◌, ◌∙◌, IfOk, ap, subst, sym, true}
 use Rattle.gaz_overlay.specs.Changes.{is_touched}
 use Rattle.gaz_records.specs.Keys.{key_of}
 use Rattle.gaz_views.specs.Numbered.{with_adopted}
+use Rattle.gaz_calls.proofs.Answered.{asked_fault, asked_step, asked_want}
 use Rattle.gaz_store.specs.Beside.{Makes, Turns}
-use Rattle.gaz_store.proofs.Answered.{asked_fault, asked_step, asked_want}
 use Rattle.gaz_store.proofs.PassedOn.{adopted_turns}
 use Rattle.gaz_store.proofs.Turning.{with_changes}
 use Rattle.gaz_store.proofs.judgement.Judgement.adopt.Goals as goal

@@ -1,7 +1,7 @@
 use Rattle.std.proofs.Common.{◌∙◌, ap}
 use Rattle.gaz_overlay.specs.Questions.{both}
 use Rattle.gaz_views.specs.Words.{approved_of}
-use Rattle.gaz_store.proofs.Answered.{answered_ok}
+use Rattle.gaz_calls.proofs.Answered.{answered_ok}
 use Rattle.gaz_store.proofs.Turning.{approved_beside}
 use Rattle.gaz_store.proofs.judgement.Judgement.approved_of.Goals as goal
 

@@ -1,6 +1,6 @@
 use Rattle.std.proofs.Common.{◌∙◌}
-use Rattle.gaz_store.proofs.Answered.{answered_ok}
-use Rattle.gaz_store.proofs.Composing.{asked_nothing}
+use Rattle.gaz_calls.proofs.Answered.{answered_ok}
+use Rattle.gaz_calls.proofs.Composing.{asked_nothing}
 use Rattle.gaz_store.proofs.judgement.Judgement.ask_passed.Goals as goal
 
 pub returns-then-is_some-clause-asks : goal.returns-then-is_some-clause-asks

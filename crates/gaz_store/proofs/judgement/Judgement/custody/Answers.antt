@@ -1,7 +1,7 @@
 use Rattle.std.proofs.Common.{◌∙◌, sym}
-use Rattle.gaz_store.proofs.Answered.{asked_as}
-use Rattle.gaz_store.proofs.Composing.{asked_nothing}
-use Rattle.gaz_store.proofs.Passed.{known_none, none_told}
+use Rattle.gaz_calls.proofs.Answered.{asked_as}
+use Rattle.gaz_calls.proofs.Composing.{asked_nothing}
+use Rattle.gaz_calls.proofs.Passed.{known_none, none_told}
 use Rattle.gaz_store.proofs.PassedOn.{custody_beside, custody_elsewhere}
 use Rattle.gaz_store.proofs.judgement.Judgement.custody.Goals as goal
 

@@ -1,6 +1,6 @@
 use Rattle.std.proofs.Common.{◌∙◌, sym}
-use Rattle.gaz_store.proofs.Answered.{asked_as}
-use Rattle.gaz_store.proofs.Composing.{asked_nothing}
+use Rattle.gaz_calls.proofs.Answered.{asked_as}
+use Rattle.gaz_calls.proofs.Composing.{asked_nothing}
 use Rattle.gaz_store.proofs.Turning.{item_beside, item_elsewhere}
 use Rattle.gaz_store.proofs.judgement.Judgement.item.Goals as goal
 

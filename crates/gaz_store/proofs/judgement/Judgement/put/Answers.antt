@@ -2,8 +2,8 @@ use Rattle.std.proofs.Common.{◌∙◌, ap, subst, sym}
 use Rattle.gaz_overlay.specs.Changes.{is_touched}
 use Rattle.gaz_records.specs.Keys.{key_of}
 use Rattle.gaz_views.specs.View.{with_item}
+use Rattle.gaz_calls.proofs.Composing.{asked_nothing}
 use Rattle.gaz_store.specs.Beside.{Makes}
-use Rattle.gaz_store.proofs.Composing.{asked_nothing}
 use Rattle.gaz_store.proofs.Turning.{put_turns, with_changes}
 use Rattle.gaz_store.proofs.judgement.Judgement.put.Goals as goal
 

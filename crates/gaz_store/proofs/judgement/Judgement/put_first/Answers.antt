@@ -6,8 +6,8 @@ use Rattle.gaz_tables.specs.Tables.{rows_of}
 use Rattle.gaz_kept.specs.LastViews.{last_in}
 use Rattle.gaz_kept.specs.Newest.{TellsStood}
 use Rattle.gaz_kept.specs.Versions.{histories_in}
+use Rattle.gaz_calls.proofs.Answered.{answered_ok}
 use Rattle.gaz_store.specs.Beside.{Makes}
-use Rattle.gaz_store.proofs.Answered.{answered_ok}
 use Rattle.gaz_store.proofs.Turning.{put_first_turns, with_changes}
 use Rattle.gaz_store.proofs.judgement.Judgement.put_first.Goals as goal
 

@@ -1,7 +1,7 @@
 use Rattle.std.proofs.Common.{IfOk, subst, sym}
 use Rattle.gaz_views.specs.View.{with_release}
+use Rattle.gaz_calls.proofs.Answered.{asked_fault, asked_step, asked_want}
 use Rattle.gaz_store.specs.Beside.{Makes, Turns}
-use Rattle.gaz_store.proofs.Answered.{asked_fault, asked_step, asked_want}
 use Rattle.gaz_store.proofs.PassedOn.{released_turns}
 use Rattle.gaz_store.proofs.Turning.{with_changes}
 use Rattle.gaz_store.proofs.judgement.Judgement.release.Goals as goal

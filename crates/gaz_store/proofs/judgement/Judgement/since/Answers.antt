@@ -1,8 +1,8 @@
 use Rattle.std.proofs.Common.{◌∙◌, refl, sym}
 use Rattle.std.specs.Prelude.{None}
-use Rattle.gaz_store.proofs.Answered.{answered_ok}
-use Rattle.gaz_store.proofs.Composing.{asked_nothing}
-use Rattle.gaz_store.proofs.Passed.{known_none, none_told}
+use Rattle.gaz_calls.proofs.Answered.{answered_ok}
+use Rattle.gaz_calls.proofs.Composing.{asked_nothing}
+use Rattle.gaz_calls.proofs.Passed.{known_none, none_told}
 use Rattle.gaz_store.proofs.PassedOn.{told_before, told_now}
 use Rattle.gaz_store.proofs.judgement.Judgement.since.Goals as goal
 

@@ -2,8 +2,8 @@ use Rattle.std.proofs.Common.{◌∙◌, sym}
 use Rattle.gaz_tables.specs.Schema.{received}
 use Rattle.gaz_tables.specs.Tables.{rows_of}
 use Rattle.gaz_kept.specs.Files.{reached_in}
-use Rattle.gaz_store.proofs.Answered.{asked_as}
-use Rattle.gaz_store.proofs.Composing.{asked_nothing}
+use Rattle.gaz_calls.proofs.Answered.{asked_as}
+use Rattle.gaz_calls.proofs.Composing.{asked_nothing}
 use Rattle.gaz_kept.proofs.LawfulViews.{view_lawful}
 use Rattle.gaz_store.proofs.Turning.{or_false, or_true, tied_beside}
 use Rattle.gaz_store.proofs.judgement.Judgement.tied.Goals as goal

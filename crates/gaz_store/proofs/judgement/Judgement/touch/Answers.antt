@@ -1,4 +1,4 @@
-use Rattle.gaz_store.proofs.Composing.{asked_nothing}
+use Rattle.gaz_calls.proofs.Composing.{asked_nothing}
 use Rattle.gaz_store.proofs.judgement.Judgement.touch.Goals as goal
 
 pub returns-then-is_touched-clause-asks : goal.returns-then-is_touched-clause-asks

@@ -1,6 +1,6 @@
 use Rattle.std.proofs.Common.{subst, sym}
+use Rattle.gaz_calls.proofs.Answered.{answered_ok}
 use Rattle.gaz_store.specs.Beside.{Makes}
-use Rattle.gaz_store.proofs.Answered.{answered_ok}
 use Rattle.gaz_store.proofs.Turning.{touched_turns, with_changes}
 use Rattle.gaz_store.proofs.judgement.Judgement.touch_first.Goals as goal
 

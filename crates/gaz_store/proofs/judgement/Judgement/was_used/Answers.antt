@@ -1,9 +1,9 @@
 use Rattle.std.proofs.Common.{◌∙◌, ◌||◌, ap, sym}
 use Rattle.gaz_kept.specs.LastViews.{last_in}
 use Rattle.gaz_views.specs.View.{was_used}
-use Rattle.gaz_store.proofs.Answered.{asked_as}
-use Rattle.gaz_store.proofs.Composing.{asked_nothing}
-use Rattle.gaz_store.proofs.Passed.{known_none}
+use Rattle.gaz_calls.proofs.Answered.{asked_as}
+use Rattle.gaz_calls.proofs.Composing.{asked_nothing}
+use Rattle.gaz_calls.proofs.Passed.{known_none}
 use Rattle.gaz_store.proofs.Turning.{used_beside}
 use Rattle.gaz_store.proofs.judgement.Judgement.was_used.Goals as goal
 

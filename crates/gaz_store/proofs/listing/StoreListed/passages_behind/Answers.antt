@@ -1,5 +1,5 @@
 use Rattle.gaz_store.proofs.Listed.{passages_rest}
-use Rattle.gaz_store.proofs.LivesTold.{tables_rest}
+use Rattle.gaz_store.proofs.Listed.{tables_rest}
 use Rattle.gaz_store.proofs.StoreReads.{tells}
 use Rattle.gaz_store.proofs.listing.StoreListed.passages_behind.Goals as goal
 

@@ -1,6 +1,6 @@
 use Rattle.std.proofs.Common.{subst}
+use Rattle.gaz_calls.proofs.Answered.{asked_as}
 use Rattle.gaz_store.specs.Store.{StandsBeside}
-use Rattle.gaz_store.proofs.Answered.{asked_as}
 use Rattle.gaz_store.proofs.Turning.{stands_on}
 use Rattle.gaz_store.proofs.progress.Judging.ask_passed.Goals as goal
 

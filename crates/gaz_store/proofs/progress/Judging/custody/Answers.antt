@@ -1,7 +1,7 @@
 use Rattle.std.proofs.Common.{◌≡◌, rules, subst, sym}
 use Rattle.gaz_views.specs.View.{custody_at}
+use Rattle.gaz_calls.proofs.Answered.{asked_as}
 use Rattle.gaz_store.specs.Store.{IsOfView}
-use Rattle.gaz_store.proofs.Answered.{asked_as}
 use Rattle.gaz_store.proofs.progress.Judging.custody.Goals as goal
 
 pub returns-in-Open : goal.returns-in-Open

@@ -1,7 +1,7 @@
 use Rattle.std.proofs.Common.{◌≡◌, rules, subst, sym}
 use Rattle.gaz_views.specs.Words.{tied}
+use Rattle.gaz_calls.proofs.Answered.{asked_as}
 use Rattle.gaz_store.specs.Store.{IsOfView}
-use Rattle.gaz_store.proofs.Answered.{asked_as}
 use Rattle.gaz_store.proofs.progress.Judging.tied.Goals as goal
 
 pub returns-in-Open-clause-asks : goal.returns-in-Open-clause-asks

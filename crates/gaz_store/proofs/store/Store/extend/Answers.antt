@@ -1,5 +1,5 @@
 use Rattle.std.proofs.Common.{Ok, Err}
-use Rattle.gaz_store.proofs.Grown.{content_stays, leaves_either}
+use Rattle.gaz_store.proofs.Extended.{content_stays, leaves_either}
 use Rattle.gaz_store.proofs.store.Store.extend.Goals as goal
 
 pub returns-in-Ok-clause-keeps : goal.returns-in-Ok-clause-keeps

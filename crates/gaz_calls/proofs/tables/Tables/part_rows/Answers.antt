@@ -1,0 +1,17 @@
+use Rattle.std.proofs.Common.{◌≡◌, arith, pos, refl, w64}
+use Rattle.std.proofs.lemmas.Int.{ints}
+use mir.Val.{to_z}
+use Rattle.gaz_records.specs.Kinds.{number_of}
+use Rattle.gaz_tables.specs.Schema.{version2}
+use Rattle.gaz_tables.specs.Versions.{FindsParts}
+use Rattle.gaz_tables.specs.Tables.{rows_of}
+use Rattle.gaz_calls.proofs.Composing.{query_asks}
+use Rattle.gaz_calls.proofs.tables.Tables.part_rows.Goals as goal
+
+pub returns-clause-asks : goal.returns-clause-asks
+returns-clause-asks g c =
+    let blpu : to_z w64 c.number.result ≡ pos c.args.uprn = omega (arith, ints, c.number.ensures.value, c.number.ensures.range) in
+    query_asks _ _ _ _ _ _ _ (λ db rows. FindsParts c.args.code (number_of c.args.kind) (pos c.args.uprn) c.args.start.now c.args.most (rows_of db version2) rows.items)
+    c.ready.ensures.asks c.in_default.ensures.ready
+    (rw (c.number-cust.ensures.value, c.number-kind.ensures, blpu) at c.parts_of-found.ensures.asked.found) c.parts_of-found.ensures.asked.stays c.parts_of-found.ensures.asked.spared c.parts_of-found.ensures.asked.leaves
+    refl refl c.told.ensures.tells

@@ -1,0 +1,79 @@
+-- What a call tells that asks the tables and writes nothing.
+use Rattle.std.specs.Prelude.{◌≡◌, ◌≤◌, ◌<◌, ⊤, false, ℕ}
+use Rattle.std.specs.Prelude.{Result, Ok, IfOk, IfErr, IsTrue, OnOk, OnErr}
+use Rattle.sqlite.specs.declared.error.Error.{Error}
+use Rattle.sqlite.specs.Effect.{Database}
+use Rattle.sqlite.specs.Held.{state}
+use Rattle.sqlite.specs.State.{HasCleanDisk, State, Survives}
+use Rattle.sqlite_trees.specs.declared.store.Store.{Ghosts}
+use Rattle.gaz_keeper.specs.declared.fault.ShelfFault.{ShelfFault}
+use Rattle.gaz_keeper.specs.declared.fault.ShelfFault.TheVariants.{Store}
+use Rattle.gaz_tables.specs.Schema.{received}
+use Rattle.gaz_tables.specs.Stores.{HasTables}
+use Rattle.gaz_tables.specs.Tables.{rows_of}
+use Rattle.gaz_kept.specs.Kept.{IsKept}
+use Rattle.gaz_calls.specs.Remembered.{AreSo}
+use Rattle.gaz_calls.specs.Seen.{IsUnharmed}
+use Rattle.gaz_kept.specs.Opening.{IsSettled}
+use Rattle.gaz_calls.specs.declared.tables.Tables.{Tables}
+
+-- no failure is forgotten, and one of the store is counted
+pub record Tallies {T : Type 0} (before after : ℕ) (result : Result T ShelfFault) : Type 0 where
+  pub kept : before ≤ after
+  pub store : IfErr result (λ e. e ≡ Store → before < after)
+
+-- the answer is right of what the tables hold, nothing changes, and a stop leaves nothing more
+pub record Asks {T : Type 0} (old new : State) (result : Result T ShelfFault)
+    (IsRight : Database → T → Type 0) : Type 0 where
+  pub harm : IsUnharmed new → IsUnharmed old
+  pub trust : HasCleanDisk new → HasCleanDisk old
+  pub rests : IsUnharmed new → HasTables old.now → new.now ≡ old.now
+  pub right : IsUnharmed new → IsKept old.now → IfOk result (IsRight old.now)
+  pub leaves : (IsUnharmed old → HasTables old.now) → Survives old new (λ _. ⊥)
+
+-- whatever the answer
+abbrev pub IsAnyway : {T : Type 0} → Database → T → Type 0
+IsAnyway db x = ⊤
+
+-- a call on tables that only asks them
+pub record AsksTables {S : Type 0} {store : Ghosts S} {T : Type 0} (old new : Tables S store)
+    (result : Result T ShelfFault) (IsRight : Database → T → Type 0) : Type 0 where
+  pub asks : Asks (state store old.conn) (state store new.conn) result IsRight
+  pub tallies : Tallies old.failures new.failures result
+  pub at_hand : new.at_hand ≡ old.at_hand
+
+-- a call that answers from what is at hand, or asks the tables and may have the answer at hand then
+pub record Recalls {S : Type 0} {store : Ghosts S} {T : Type 0} (old new : Tables S store)
+    (result : Result T ShelfFault) (IsRight : Database → T → Type 0) : Type 0 where
+  pub asks : Asks (state store old.conn) (state store new.conn) result
+      (λ db x. AreSo old.at_hand (rows_of db received) → IsRight db x)
+  pub tallies : Tallies old.failures new.failures result
+  pub at_hand : IsUnharmed (state store new.conn) → IsKept (state store old.conn).now
+      → AreSo old.at_hand (rows_of (state store old.conn).now received)
+      → AreSo new.at_hand (rows_of (state store old.conn).now received)
+
+-- ---- within a call
+
+-- a statement may be asked of the tables: their connection is open, where the disk returned what
+-- was written, and shows what was committed; once one was asked it isn't known to be open
+pub record AreReady {S : Type 0} {store : Ghosts S} (t : Tables S store) : Type 0 where
+  pub is_open : HasCleanDisk (state store t.conn) → IsTrue (state store t.conn).is_open
+  pub settled : IsSettled (state store t.conn)
+  pub unsure : t.sure ≡ false
+
+-- a fault, and the tables but for the count
+pub record Fails {S : Type 0} {store : Ghosts S} (old new : Tables S store) (fault : ShelfFault)
+    : Type 0 where
+  pub conn : new.conn ≡ old.conn
+  pub at_hand : new.at_hand ≡ old.at_hand
+  pub kept : old.failures ≤ new.failures
+  pub counted : fault ≡ Store → old.failures < new.failures
+
+-- what the connection answered, or the fault that its error is
+pub record Tells {S : Type 0} {store : Ghosts S} {T : Type 0} (old new : Tables S store)
+    (answer : Result T Error) (result : Result T ShelfFault) : Type 0 where
+  pub conn : new.conn ≡ old.conn
+  pub at_hand : new.at_hand ≡ old.at_hand
+  pub same : IfOk result (λ x. answer ≡ Ok x)
+  pub fault : OnErr result (OnOk answer ⊥)
+  pub tallies : Tallies old.failures new.failures result

@@ -1,0 +1,97 @@
+//! What each call on the tables begins and ends with.
+ghost use Rattle.std.specs.Prelude.{◌≡◌, ◌==◌, ◌^◌, ◌-◌, true, if◌then◌else◌};
+ghost use Rattle.std.specs.Prelude.{IsTrue, OnOk};
+ghost use Rattle.sqlite.specs.Held.{state};
+ghost use Rattle.sqlite.specs.State.{HasCleanDisk};
+ghost use Rattle.gaz_calls.specs.Asking.{AreReady, AsksTables, Fails, IsAnyway, Tells};
+ghost use Rattle.gaz_kept.specs.Opening.{IsSettled};
+
+use crate::tables::Tables;
+use gaz_keeper::ShelfFault;
+use gaz_kept::decoding::RowFault;
+use gaz_kept::probing::probe;
+use sqlite::{Alter, Error, ErrorCode};
+
+impl<S: Alter> Tables<S> {
+    /// Counts a failure, where the count isn't at its last value.
+    pub fn fail(&mut self) -> ShelfFault
+        ensures fails { Fails self.old self.new result }
+        ensures fault { result ≡
+            (if self.old.failures == 2 ^ 64 - 1 then ShelfFault.Memory else ShelfFault.Store) }
+    {
+        if self.failures == u64::MAX {
+            return ShelfFault::Memory;
+        }
+        self.failures += 1;
+        ShelfFault::Store
+    }
+
+    /// The fault that an error of the connection is.
+    pub(crate) fn fault(&mut self, error: Error) -> ShelfFault
+        ensures { Fails self.old self.new result }
+    {
+        match error {
+            Error::SqliteFailure(ErrorCode::OutOfMemory) => ShelfFault::Memory,
+            _ => self.fail(),
+        }
+    }
+
+    /// Outside a transaction a connection shows what was committed.
+    pub(crate) fn known(&self)
+        ensures { IsSettled (state S.Store self.now.conn) }
+    {
+        let _ = self.conn.is_autocommit();
+    }
+
+    /// Asks whether the connection is open, where that isn't known since it answered last.
+    pub fn make_sure(&mut self) -> Result<(), ShelfFault>
+        ensures asks { AsksTables self.old self.new result IsAnyway }
+        ensures sure { OnOk result (self.new.sure ≡ true) }
+    {
+        if self.sure {
+            return Ok(());
+        }
+        self.known();
+        let answer = probe(&mut self.conn);
+        self.told(answer)?;
+        Ok(())
+    }
+
+    /// Makes sure that the connection is open, for one statement: `told` says of its answer whether
+    /// that is still known. It is asked by `if let`: `?` takes two seconds more of each proof.
+    pub(crate) fn ready(&mut self) -> Result<(), ShelfFault>
+        ensures asks { AsksTables self.old self.new result IsAnyway }
+        ensures ready { OnOk result (AreReady self.new) }
+    {
+        self.make_sure()?;
+        self.known();
+        self.sure = false;
+        Ok(())
+    }
+
+    /// What the connection answered, which is open then, or the fault that its error is.
+    pub(crate) fn told<T>(&mut self, answer: Result<T, Error>) -> Result<T, ShelfFault>
+        requires { HasCleanDisk (state S.Store self.old.conn)
+            → OnOk answer (IsTrue (state S.Store self.old.conn).is_open) }
+        ensures tells { Tells self.old self.new answer result }
+        ensures sure { OnOk result (self.new.sure ≡ true) }
+    {
+        match answer {
+            Ok(found) => {
+                self.sure = true;
+                Ok(found)
+            }
+            Err(error) => Err(self.fault(error)),
+        }
+    }
+
+    /// Want of memory, or a failure, which is counted: the row is one that no store writes.
+    pub(crate) fn row_fault(&mut self, fault: RowFault) -> ShelfFault
+        ensures { Fails self.old self.new result }
+    {
+        match fault {
+            RowFault::Memory => ShelfFault::Memory,
+            RowFault::Wrong => self.fail(),
+        }
+    }
+}

@@ -1,0 +1,26 @@
+//! A keeper's calls on the tables of a database: each asks a statement or writes in a transaction of
+//! its own, and says what it told of the tables or made of them.
+#![tactic(auto)]
+
+mod applying;
+mod asking;
+mod at_hand;
+mod blpus;
+mod counting;
+mod custody;
+mod files;
+mod growing;
+mod keys;
+pub mod laws;
+mod life_rows;
+mod lives;
+mod pages;
+mod passages;
+mod steps;
+mod streets;
+mod tables;
+mod volumes;
+mod writing;
+
+pub use growing::ExtendFault;
+pub use tables::Tables;

@@ -1,5 +1,0 @@
-use Rattle.gaz_store.proofs.WorkedGrowing.{worked_growing}
-use Rattle.gaz_store.proofs.laws.worked_growing.Goals as goal
-
-pub returns : goal.returns
-returns c = worked_growing
