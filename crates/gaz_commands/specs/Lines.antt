@@ -45,10 +45,6 @@ standing_text s =
     ++ (codes " held " ++ (decimal s.held
     ++ (codes " wants " ++ wanted_text s.wants))))))
 
--- a digest, in hexadecimal digits
-abbrev pub hex_text : List ℕ → List ℕ
-hex_text digest = encode_lower digest
-
 -- a line, without its end
 abbrev pub line_text : PrintedLine → List ℕ
 line_text Ready = codes "ready"
@@ -58,7 +54,7 @@ line_text Migrated = codes "migrated"
 line_text Current = codes "current"
 line_text (New outcome) = codes "new " ++ became_text outcome
 line_text (Repeat outcome) = codes "repeat " ++ became_text outcome
-line_text (Taken digest) = codes "taken " ++ hex_text digest
+line_text (Taken digest) = codes "taken " ++ encode_lower digest
 line_text (Stands standing) = standing_text standing
 line_text (Address line) = line
 line_text Nothing = codes "none"

@@ -1,6 +1,7 @@
--- What a command says of the hub's response, where it is printed, and the exit status.
-use Rattle.std.specs.Prelude.{ℕ, if◌then◌else◌, List, [], ◌++◌, codes, Option, Some, None, Result}
-use Rattle.std.specs.Prelude.{Ok, Err}
+-- What a command says of the hub's response, where it is printed, and whether what was asked for
+-- was done.
+use Rattle.std.specs.Prelude.{ℕ, Bool, true, false, List, [], ◌++◌, codes, Option, Some, None}
+use Rattle.std.specs.Prelude.{Result, Ok, Err}
 use Rattle.gaz_hub.specs.Posing.{telling}
 use Rattle.gaz_hub.specs.Step.{Replied, Response, Submitted}
 use Rattle.gaz_hub.specs.declared.answer.Answer.{Answer}
@@ -69,14 +70,8 @@ error_line fault.Unreadable = codes "gazhub: Unreadable\n"
 error_line fault.NotReceived = codes "gazhub: NotReceived\n"
 error_line fault.ReceivedUnsettled = codes "gazhub: ReceivedUnsettled\n"
 
--- what is printed on standard error
-abbrev pub error_of : Said → List ℕ
-error_of (said.Line printed) = []
-error_of (said.Extract bytes) = []
-error_of (said.Failed why) = error_line why
-
--- the exit status
-abbrev pub status_of : Said → ℕ
-status_of (said.Line printed) = if is_done printed then 0 else 1
-status_of (said.Extract bytes) = 0
-status_of (said.Failed why) = 3
+-- what was asked for was done
+abbrev pub is_said_done : Said → Bool
+is_said_done (said.Line printed) = is_done printed
+is_said_done (said.Extract bytes) = true
+is_said_done (said.Failed why) = false

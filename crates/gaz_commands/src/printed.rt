@@ -1,8 +1,8 @@
 //! The lines that commands print.
 ghost use Rattle.std.specs.Prelude.{◌≡◌, Some};
-ghost use Rattle.gaz_commands.specs.Lines.{became_text, growth_number, hex_text, is_done};
-ghost use Rattle.gaz_commands.specs.Lines.{line_text, pair_text, standing_text};
-ghost use Rattle.gaz_commands.specs.Lines.{wanted_text};
+ghost use Rattle.hex.specs.Hex.{encode_lower};
+ghost use Rattle.gaz_commands.specs.Lines.{became_text, growth_number, is_done, line_text};
+ghost use Rattle.gaz_commands.specs.Lines.{pair_text, standing_text, wanted_text};
 
 use gaz_extract::AddressLine;
 use gaz_hub::{Digest, DoorRefusal, Outcome, Standing};
@@ -140,7 +140,7 @@ impl fmt::Display for Stands {
 struct InHex(Digest);
 
 impl fmt::Display for InHex {
-    ghost output = { λ d. Some (hex_text d.0) };
+    ghost output = { λ d. Some (encode_lower d.0) };
 
     fn fmt<W: fmt::Write>(&self, f: &mut fmt::Formatter<W>) -> fmt::Result {
         let mut digits = [0; 64];

@@ -1,7 +1,7 @@
 //! What is said of the hub's answers.
 ghost use Rattle.std.specs.Prelude.{◌≡◌};
-ghost use Rattle.gaz_commands.specs.Saying.{error_line, error_of, said_address, said_of};
-ghost use Rattle.gaz_commands.specs.Saying.{said_of_told, said_refused, said_told, status_of};
+ghost use Rattle.gaz_commands.specs.Saying.{error_line, is_said_done, said_address, said_of};
+ghost use Rattle.gaz_commands.specs.Saying.{said_of_told, said_refused, said_told};
 
 use crate::printed::PrintedLine;
 use gaz_extract::AddressLine;
@@ -43,24 +43,14 @@ pub enum Said {
 }
 
 impl Said {
-    /// The exit status: 0 where what was asked for was done, 1 where it wasn't, 3 for a fault.
-    pub fn status(&self) -> u8
-        ensures { result ≡ status_of self.now }
+    /// Whether what was asked for was done.
+    pub fn is_done(&self) -> bool
+        ensures { result ≡ is_said_done self.now }
     {
         match self {
-            Said::Line(line) => u8::from(!line.is_done()),
-            Said::Extract(_) => 0,
-            Said::Failed(_) => 3,
-        }
-    }
-
-    /// The line on standard error, with its end; none where there is no fault.
-    pub fn error(&self) -> &'static str
-        ensures { result.now ≡ error_of self.now }
-    {
-        match self {
-            Said::Line(_) | Said::Extract(_) => "",
-            Said::Failed(fault) => fault.line(),
+            Said::Line(line) => line.is_done(),
+            Said::Extract(_) => true,
+            Said::Failed(_) => false,
         }
     }
 

@@ -7,7 +7,7 @@ use Rattle.gaz_hub.specs.declared.hub.Hub.{Hub}
 use Rattle.gaz_hub.proofs.HubRuns.{runs_none, runs_one}
 use Rattle.gaz_commands.specs.Obeying.{Obeys}
 use Rattle.gaz_commands.specs.declared.said.Said.{Said}
-use Rattle.gaz_stored.specs.Ways.{Asks, GoesBy}
+use Rattle.gaz_stored.specs.Ways.{Asks, GoesBy, Way}
 use Rattle.gaz_stored.proofs.Filled.{over_parts}
 use Rattle.gaz_hub.specs.Waiting.{Remembered, remembering}
 use Rattle.gaz_register.specs.Registers.{RegisterValue}
@@ -40,6 +40,10 @@ steps_alone seen register hub new first last command response e f fresh back ste
     let over = over_parts seen (λ r s. Runs (door_of r) s (hub_seen seen new) (command ∷ []) (response ∷ [])) hub register first e f fresh one in
     subst (λ k. Runs (door_of register) (seen first) (seen k) (command ∷ []) (response ∷ [])) back
     (runs_alone (door_of register) register new.register new.waiters (seen first) (seen new.keeper) (command ∷ []) (response ∷ []) over)
+
+-- nothing is asked over a keeper that is left as it is
+pub goes_unused : {K : Type 0} (seen : K → Seen) (register : RegisterValue) (way : Way K) (keeper : K) → way keeper keeper [] [] → GoesBy seen register way keeper keeper
+goes_unused seen register way keeper went = record { commands = []; responses = []; went = went; harm = λ fine. fine; trust = λ t. t; runs = λ bare can. runs_none (door_of register) (seen keeper) }
 
 -- what a call did to a hub that remembered nothing, it did over its keeper
 pub asks_with : {K : Type 0} (seen : K → Seen) (register : RegisterValue) (asks : Result Command Said) (hub new : Hub K) (first last : K) (said : Said) → hub.register ≡ register → hub.keeper ≡ first → hub.waiters ≡ None

@@ -31,7 +31,7 @@ pub went_by : (register : RegisterValue) (before : HubState) (commands : List Co
 went_by register before commands responses after partial run = record {
   run = run;
   abides = every_run_from_holds (door_of register) before after commands responses partial run;
-  answers = every_answer_holds (door_of register) before after commands responses partial run;
+  answers = (every_answer_holds (door_of register) before after commands responses partial run).read_off;
 }
 
 module _ {S N : Type 0} {g : Ghosts S} (register : RegisterValue) (first : Store S N g) where

@@ -54,33 +54,20 @@ module _ {S : Type 0} {g : Ghosts S} (register : RegisterValue) (before after : 
         stops = λ stood itself. finds register first last hub commands responses stood.partial (begun stood) (leaves_opened register first before from stood itself) (runs stood);
       })
 
-  module _ (way : Way (Store S Brand g)) (given : Store S Brand g) where
-    -- a store that was opened and left as it is
-    pub unused : way given given [] [] → IsOpenedFrom g register before given → given.tables.conn ≡ after → UsesOpened g register way before after
-    unused went from back = record {
-      first = given;
-      last = given;
-      commands = [];
-      responses = [];
-      went = went;
-      back = back;
-      uses = uses given given [] [] (λ fine. fine) (λ clean. clean) from back (λ _. runs_none (door_of register) (seen_in (register_text register) given));
-    }
-
-    module _ (it : UsedAs Brand (register_text register) register way given after) where
-      pub used_opened : IsOpenedFrom g register before given → UsesOpened g register way before after
-      used_opened from_given =
-          let from = same_opened register before given it.first it.same from_given in
-          record {
-            first = it.first;
-            last = it.last;
-            commands = it.goes.commands;
-            responses = it.goes.responses;
-            went = it.goes.went;
-            back = it.back;
-            uses = uses it.first it.last it.goes.commands it.goes.responses it.goes.harm it.goes.trust from it.back
-                (λ stood. it.goes.runs (rests_bare (register_text register)) (λ fine. can_mirror (register_text register) (door_of register) it.first (begun_opened register it.first before from stood fine).0));
-          }
+  module _ (way : Way (Store S Brand g)) (given : Store S Brand g) (it : UsedAs Brand (register_text register) register way given after) where
+    pub used_opened : IsOpenedFrom g register before given → UsesOpened g register way before after
+    used_opened from_given =
+        let from = same_opened register before given it.first it.same from_given in
+        record {
+          first = it.first;
+          last = it.last;
+          commands = it.goes.commands;
+          responses = it.goes.responses;
+          went = it.goes.went;
+          back = it.back;
+          uses = uses it.first it.last it.goes.commands it.goes.responses it.goes.harm it.goes.trust from it.back
+              (λ stood. it.goes.runs (rests_bare (register_text register)) (λ fine. can_mirror (register_text register) (door_of register) it.first (begun_opened register it.first before from stood fine).0));
+        }
 
 -- a store that was made where there was room is one of which nothing was asked
 pub made_alone : {S R : Type 0} {g : Ghosts S} (register : RegisterValue) (before : Held S) (store : Store S R g) → IsMade (state g before) (state g store.tables.conn) (register_text register) (seen_in (register_text register) store) → HasRoom (state g before).now.schema

@@ -1,5 +1,5 @@
 -- Worked examples, computed from the definitions.
-use Rattle.std.specs.Prelude.{◌≡◌, codes, [], ◌∷◌, Some, None, Ok, Err}
+use Rattle.std.specs.Prelude.{◌≡◌, codes, ℕ, [], ◌∷◌, Some, None, Ok, Err}
 use Rattle.std.specs.FinMap as map
 use Rattle.sqlite.specs.Effect.{Database}
 use Rattle.sqlite_trees.specs.Tree.{no_trees, with_tree}
@@ -14,6 +14,7 @@ use Rattle.gaz_kept.specs.declared.refusal.StoreRefusal.TheVariants.{BadSchema, 
 use Rattle.gaz_kept.specs.declared.refusal.StoreRefusal.TheVariants.{OtherRegister}
 use Rattle.gaz_hub.specs.Step.{Command, HubState, Submit}
 use Rattle.gaz_commands.specs.declared.said.Said.{Said}
+use Rattle.gaz_stored.specs.Announcing.{IsAnnounced, SaysWhere, listening}
 use Rattle.gaz_stored.specs.Meetings.{Missed}
 use Rattle.gaz_stored.specs.Reopening.{OpensOrFails}
 use Rattle.gaz_stored.specs.Runs.{hub_in}
@@ -62,7 +63,22 @@ pub record WorkedWays : Type 0 where
   pub nobody : Attends no_keeper [] 1 (Err NoPort) [] tt tt [] []
   pub somebody : ¬ Attends no_keeper [] 1 (Err NoPort) (Missed ∷ []) tt tt [] []
 
+-- what is written before connections are answered, by a writer that held nothing
+pub record WorkedAnnouncing : Type 0 where
+  pub line : listening 8080 ≡ codes "listening 127.0.0.1:8080\n"
+  pub says : SaysWhere (Some 8080) (Some []) (Some (codes "listening 127.0.0.1:8080\n"))
+  pub nowhere : ¬ SaysWhere None (Some []) (Some (listening 8080))
+  pub no_port : IsAnnounced {N = ℕ} None (Some []) (Some []) (Ok (Err NoPort))
+  -- nobody is answered who wasn't told where, and a port that was had is told
+  pub not_silent : ¬ IsAnnounced {N = ℕ} (Some 8080) (Some []) (Some []) (Ok (Ok 1))
+  pub had_port : ¬ IsAnnounced {N = ℕ} (Some 8080) (Some []) (Some []) (Ok (Err NoPort))
+  -- nothing is told where there is no hub
+  pub no_hub : IsAnnounced {N = ℕ} (Some 8080) (Some []) (Some []) (Err Fault)
+  pub told_too_soon : ¬ IsAnnounced {N = ℕ} (Some 8080) (Some []) (Some (listening 8080))
+      (Err Fault)
+
 pub record WorkedExamples : Type 0 where
   pub on_hubs : WorkedHub
   pub on_openings : WorkedOpenings
   pub on_ways : WorkedWays
+  pub on_announcing : WorkedAnnouncing

@@ -1,12 +1,12 @@
 pub mod Runs
 pub mod Stopping
 pub mod Using
-pub mod Answering
+pub mod Unheard
 pub mod Examples
 pub mod Meetings
 pub mod Serving
 pub mod Asking
-pub mod Attending
+pub mod Announcing
 pub mod Extending
 pub mod Ways
 pub mod Migrating

@@ -9,7 +9,7 @@ use Rattle.gaz_views.specs.View.{empty_view}
 use Rattle.gaz_kept.specs.Contents.{content_in}
 use Rattle.gaz_kept.specs.Kept.{IsKept}
 use Rattle.gaz_kept.specs.Opening.{IsOf}
-use Rattle.gaz_hub.specs.Answers.{AllAnswered}
+use Rattle.gaz_hub.specs.Answers.{AllReadOff}
 use Rattle.gaz_hub.specs.Hubs.{AreKnown, door_of, state_of}
 use Rattle.gaz_hub.specs.Runs.{AbidesFrom, Run}
 use Rattle.gaz_hub.specs.Standing.{IsPartial}
@@ -37,7 +37,7 @@ pub record Went (register : RegisterValue) (before : HubState) (commands : List 
   -- what is received is what was there and what then came first, and the board is partial over it
   pub abides : AbidesFrom (door_of register) before commands responses after
   -- each answer is read off the standing board of all files that were received by then
-  pub answers : AllAnswered (door_of register) before.received commands responses after.received
+  pub answers : AllReadOff (door_of register) before.received commands responses
 
 -- they led to some hub, whatever became of its tables
 pub record WentOn (register : RegisterValue) (before : HubState) (commands : List Command)

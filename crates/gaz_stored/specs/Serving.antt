@@ -70,9 +70,11 @@ pub record Serves {K : Type 0} (seen : K → Seen) (most served : ℕ) (old new 
   pub in_turn : InTurn seen most old served new met commands responses
   pub runs : Runs (door_of old.register) (hub_seen seen old) (hub_seen seen new) commands responses
 
--- so many connections of those that were wanted were answered, where this is at hand at last: not
--- none, and all of them unless what was at hand was dropped
-pub record EndsEarly {U : Type 0} (connections served : ℕ) (upper : Option U) : Type 0 where
-  pub most : served ≤ connections
-  pub some : 1 ≤ connections → 1 ≤ served
+-- so many of the connections that are wanted were answered: one at least
+abbrev pub AreSome : ℕ → ℕ → Type 0
+AreSome connections served = (served ≤ connections) × (1 ≤ connections → 1 ≤ served)
+
+-- and where this is at hand at last, all of them unless what was at hand was dropped
+pub record MayEndEarly {U : Type 0} (connections served : ℕ) (upper : Option U) : Type 0 where
+  pub some : AreSome connections served
   pub dropped : served < connections → upper ≡ None

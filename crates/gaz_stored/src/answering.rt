@@ -4,7 +4,7 @@ ghost use Rattle.gaz_register.specs.Texts.{register_text};
 ghost use Rattle.gaz_keeper.specs.Keeper.{IsNotOpen};
 ghost use Rattle.gaz_store.specs.Store.{progress_of};
 ghost use Rattle.gaz_exchange.specs.Conversing.{StopsByFault, transfer};
-ghost use Rattle.gaz_stored.specs.Answering.{IsUnheard};
+ghost use Rattle.gaz_stored.specs.Unheard.{IsUnheard};
 ghost use Rattle.gaz_stored.specs.Using.{LacksStore, UsedAs, UsesOpened, seen_as};
 ghost use Rattle.gaz_stored.specs.Ways.{Converses};
 

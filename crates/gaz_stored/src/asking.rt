@@ -8,13 +8,14 @@ ghost use Rattle.gaz_stored.specs.Asking.{asked};
 ghost use Rattle.gaz_stored.specs.Using.{LacksStore, UsedAs, UsesOpened};
 ghost use Rattle.gaz_stored.specs.Ways.{Asks};
 
+use crate::handing::Returned;
 use crate::keepers::ask_with;
 use gaz_commands::{Said, extract, line, status, submit};
 use gaz_hub::Hub;
 use gaz_keeper::Inbox;
 use gaz_register::Register;
 use gaz_shelf::Seed;
-use gaz_store::{OfRegister, Store, StoreRefusal};
+use gaz_store::{OfRegister, Store};
 use gaz_words::Call;
 use sqlite::{Alter, Connection};
 use std::alloc::Global;
@@ -70,18 +71,24 @@ pub fn ask_opened<S: Alter + Drop>(
     register: Register,
     call: Call<'_>,
     file: Option<&[u8]>,
-) -> (Connection<S>, Result<Said, StoreRefusal>)
+) -> Returned<S, Said>
     requires { conn.in_transaction ≡ false }
-    ensures over { result.0.in_transaction ≡ false }
-    ensures asks { IfOk result.1 (λ said. UsesOpened S.Store register (Asks register
-        (asked call.entry (option_map (λ bytes. bytes.now) file.entry)) said) conn result.0) }
-    ensures lacks { LacksStore S.Store register conn result.0 result.1 }
+    ensures over { result.conn.in_transaction ≡ false }
+    ensures asks { IfOk result.told (λ said. UsesOpened S.Store register (Asks register
+        (asked call.entry (option_map (λ bytes. bytes.now) file.entry)) said) conn result.conn) }
+    ensures lacks { LacksStore S.Store register conn result.conn result.told }
 {
     match Store::open(alloc, seed, conn, &register) {
         Ok(store) => {
             let (conn, said) = ask_over::<_, Brand>(alloc, store, register, call, file);
-            (conn, Ok(said))
+            Returned {
+                conn,
+                told: Ok(said),
+            }
         }
-        Err((conn, refusal)) => (conn, Err(refusal)),
+        Err((conn, refusal)) => Returned {
+            conn,
+            told: Err(refusal),
+        },
     }
 }

@@ -3,11 +3,11 @@ ghost use Rattle.std.specs.Prelude.{◌≡◌, false, Ok, IfErr, IfOk};
 ghost use Rattle.gaz_register.specs.Texts.{register_text};
 ghost use Rattle.gaz_keeper.specs.Keeper.{IsNotOpen};
 ghost use Rattle.gaz_store.specs.Store.{progress_of};
-ghost use Rattle.gaz_stored.specs.Attending.{IsAnnounced};
+ghost use Rattle.gaz_stored.specs.Announcing.{IsAnnounced};
 ghost use Rattle.gaz_stored.specs.Meetings.{WithPeers};
-ghost use Rattle.gaz_stored.specs.Serving.{EndsEarly};
+ghost use Rattle.gaz_stored.specs.Serving.{MayEndEarly};
 ghost use Rattle.gaz_stored.specs.Using.{LacksStore, UsedAs, UsesOpened, seen_as};
-ghost use Rattle.gaz_stored.specs.Ways.{Attends, SettlesAndServes};
+ghost use Rattle.gaz_stored.specs.Ways.{Attends};
 
 use crate::connections::MOST_REQUESTS;
 use crate::handing::HandedBack;
@@ -44,27 +44,36 @@ fn say_where<W: Write>(port: Option<u16>, w: &mut W) -> Result<(), Unserved>
     }
 }
 
-// Answers peers over a store, seen as one of the register that `N` names, all of which is put at
-// hand, where memory allows, and settled; the connection to it, what is at hand, and how many were
+// Says where peers come, and answers them over a store, seen as one of the register that `N` names,
+// all of which is put at hand, where memory allows, and settled. Where it can't be said, nobody is
+// answered, and the store stays as it is. The connection to it, what is at hand, and how many were
 // answered are left.
-fn serve_over<S: Alter + Drop, N: OfRegister, P: Peers>(
+fn attend_over<S: Alter + Drop, N: OfRegister, P: Peers, W: Write>(
     alloc: Global,
     seed: Seed,
     store: Store<S>,
     register: Register,
+    port: Option<u16>,
     peers: &mut P,
-    connections: u64,
-) -> (Connection<S>, Option<MemShelf>, u64)
+    w: &mut W,
+    wanted: u64,
+) -> (Connection<S>, Option<MemShelf>, Result<u64, Unserved>)
     requires { IsNotOpen (progress_of store.judging) }
     ensures over { result.0.in_transaction ≡ false }
-    ensures serves { WithPeers P.meets P.Reader.Source.failed P.Writer.Sink.failed
-        (λ met. UsedAs N N.text register (SettlesAndServes (seen_as N.text) register MOST_REQUESTS
+    ensures attends { WithPeers P.meets P.Reader.Source.failed P.Writer.Sink.failed
+        (λ met. UsedAs N N.text register (Attends (seen_as N.text) register MOST_REQUESTS
         result.2 met) store result.0) peers.old peers.new }
-    ensures many { EndsEarly connections result.2 result.1 }
+    ensures many { IfOk result.2 (λ served. MayEndEarly wanted served result.1) }
+    ensures announced { IsAnnounced port (W.contents w.old) (W.contents w.new) (Ok result.2) }
 {
     let store = store.named::<N>();
-    let (left, at_hand, served) = serve_with(alloc, seed, store, register, peers, connections);
-    (left.into_connection(), at_hand, served)
+    match say_where(port, w) {
+        Ok(()) => {
+            let (left, at_hand, served) = serve_with(alloc, seed, store, register, peers, wanted);
+            (left.into_connection(), at_hand, Ok(served))
+        }
+        Err(why) => (store.into_connection(), None, Err(why)),
+    }
 }
 
 /// Takes the database behind a connection outside a transaction as the store of a register, says by
@@ -87,7 +96,7 @@ pub fn serve_opened<S: Alter + Drop, P: Peers, W: Write>(
     port: Option<u16>,
     peers: &mut P,
     w: &mut W,
-    connections: u64,
+    wanted: u64,
 ) -> HandedBack<S, Result<u64, Unserved>>
     requires { conn.in_transaction ≡ false }
     ensures over { result.conn.in_transaction ≡ false }
@@ -97,33 +106,21 @@ pub fn serve_opened<S: Alter + Drop, P: Peers, W: Write>(
         MOST_REQUESTS held met) conn result.conn) peers.old peers.new) }
     ensures nobody { IfErr result.told (λ _. peers.new ≡ peers.old) }
     ensures many { IfOk result.told (λ held.
-        IfOk held (λ served. EndsEarly connections served result.at_hand)) }
+        IfOk held (λ served. MayEndEarly wanted served result.at_hand)) }
     ensures announced { IsAnnounced port (W.contents w.old) (W.contents w.new) result.told }
     ensures lacks { LacksStore S.Store register conn result.conn result.told }
 {
     match Store::open(alloc, seed, conn, &register) {
-        Ok(store) => match say_where(port, w) {
-            Ok(()) => {
-                let (conn, at_hand, served) = serve_over::<_, Brand, _>(
-                    alloc,
-                    seed,
-                    store,
-                    register,
-                    peers,
-                    connections,
-                );
-                HandedBack {
-                    conn,
-                    at_hand,
-                    told: Ok(Ok(served)),
-                }
+        Ok(store) => {
+            let (conn, at_hand, ended) = attend_over::<_, Brand, _, _>(
+                alloc, seed, store, register, port, peers, w, wanted,
+            );
+            HandedBack {
+                conn,
+                at_hand,
+                told: Ok(ended),
             }
-            Err(why) => HandedBack {
-                conn: store.into_connection(),
-                at_hand: None,
-                told: Ok(Err(why)),
-            },
-        },
+        }
         Err((conn, refusal)) => HandedBack {
             conn,
             at_hand: None,

@@ -3,7 +3,7 @@ ghost use Rattle.std.specs.Prelude.{◌≡◌};
 ghost use Rattle.gaz_keeper.specs.Keeper.{IsNotOpen};
 ghost use Rattle.gaz_mirror.specs.Mirrored.{seen_mirrored};
 ghost use Rattle.gaz_stored.specs.Meetings.{WithPeers};
-ghost use Rattle.gaz_stored.specs.Serving.{EndsEarly, Serves, TalksOrRests};
+ghost use Rattle.gaz_stored.specs.Serving.{MayEndEarly, Serves, TalksOrRests};
 
 use crate::peers::Peers;
 use gaz_exchange::converse;
@@ -43,7 +43,7 @@ pub(crate) fn serve_on<P: Peers, B: Inbox + Drop, U: Unshared + Drop>(
     ensures serves { WithPeers P.meets P.Reader.Source.failed P.Writer.Sink.failed
         (Serves seen_mirrored MOST_REQUESTS result hub.old hub.new) peers.old peers.new }
     ensures register { hub.new.register ≡ hub.old.register }
-    ensures many { EndsEarly connections result hub.new.keeper.upper }
+    ensures many { MayEndEarly connections result hub.new.keeper.upper }
 {
     for behind in 0..connections {
         serve_next(alloc, peers, hub);

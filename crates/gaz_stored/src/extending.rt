@@ -3,9 +3,10 @@ ghost use Rattle.std.specs.Prelude.{◌≡◌, false, IfOk};
 ghost use Rattle.gaz_stored.specs.Extending.{ExtendsOpened};
 ghost use Rattle.gaz_stored.specs.Using.{LacksStore};
 
+use crate::handing::Returned;
 use gaz_register::Register;
 use gaz_shelf::Seed;
-use gaz_store::{ExtendFault, Store, StoreRefusal};
+use gaz_store::{ExtendFault, Store};
 use sqlite::{Alter, Connection};
 use std::alloc::Global;
 use std::marker::Brand;
@@ -22,18 +23,24 @@ pub fn extend_opened<S: Alter + Drop>(
     conn: Connection<S>,
     register: Register,
     grown: Register,
-) -> (Connection<S>, Result<Result<(), ExtendFault>, StoreRefusal>)
+) -> Returned<S, Result<(), ExtendFault>>
     requires { conn.in_transaction ≡ false }
-    ensures over { result.0.in_transaction ≡ false }
-    ensures extends { IfOk result.1 (ExtendsOpened S.Store register grown conn result.0) }
-    ensures lacks { LacksStore S.Store register conn result.0 result.1 }
+    ensures over { result.conn.in_transaction ≡ false }
+    ensures extends { IfOk result.told (ExtendsOpened S.Store register grown conn result.conn) }
+    ensures lacks { LacksStore S.Store register conn result.conn result.told }
 {
     match Store::<S, Brand>::open(alloc, seed, conn, &register) {
         Ok(store) => {
             let (mut store, mut register) = (store, register);
             let told = store.extend(&mut register, grown);
-            (store.into_connection(), Ok(told))
+            Returned {
+                conn: store.into_connection(),
+                told: Ok(told),
+            }
         }
-        Err((conn, refusal)) => (conn, Err(refusal)),
+        Err((conn, refusal)) => Returned {
+            conn,
+            told: Err(refusal),
+        },
     }
 }

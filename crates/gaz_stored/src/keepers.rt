@@ -5,7 +5,7 @@ ghost use Rattle.gaz_keeper.specs.Keeper.{IsNotOpen};
 ghost use Rattle.gaz_exchange.specs.Conversing.{StopsByFault, transfer};
 ghost use Rattle.gaz_stored.specs.Asking.{asked};
 ghost use Rattle.gaz_stored.specs.Meetings.{WithPeers};
-ghost use Rattle.gaz_stored.specs.Serving.{EndsEarly};
+ghost use Rattle.gaz_stored.specs.Serving.{MayEndEarly};
 ghost use Rattle.gaz_stored.specs.Ways.{Asks, Converses, GoesBy, SettlesAndServes};
 
 use crate::asking::ask_hub;
@@ -60,7 +60,7 @@ pub(crate) fn serve_with<P: Peers, K: Listed + Drop>(
         (λ met. GoesBy K.seen register
         (SettlesAndServes K.Shelf register MOST_REQUESTS result.2 met) keeper result.0)
         peers.old peers.new }
-    ensures many { EndsEarly connections result.2 result.1 }
+    ensures many { MayEndEarly connections result.2 result.1 }
 {
     let mut hub = mirrored(alloc, seed, register, keeper);
     let _settled = hub.settle();

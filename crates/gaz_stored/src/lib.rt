@@ -20,7 +20,7 @@ pub use asking::ask_opened;
 pub use attending::{Unserved, serve_opened};
 pub use connections::MOST_REQUESTS;
 pub use extending::extend_opened;
-pub use handing::HandedBack;
+pub use handing::{HandedBack, Returned};
 pub use joining::mirrored;
 pub use migrating::{Migration, migrate_opened};
 pub use peers::Peers;

@@ -3,10 +3,11 @@
 ghost use Rattle.std.specs.Prelude.{◌≡◌, false, IfOk};
 ghost use Rattle.gaz_stored.specs.Migrating.{LacksBoth, MigratesOpened, StopsMoving, told_of};
 
+use crate::handing::Returned;
 use gaz_kept::migrating::is_first;
 use gaz_register::Register;
 use gaz_shelf::Seed;
-use gaz_store::{Store, StoreRefusal};
+use gaz_store::Store;
 use sqlite::{Alter, Connection};
 use std::alloc::Global;
 use std::marker::Brand;
@@ -41,16 +42,22 @@ pub fn migrate_opened<S: Alter + Drop>(
     seed: Seed,
     conn: Connection<S>,
     register: &Register,
-) -> (Connection<S>, Result<Migration, StoreRefusal>)
+) -> Returned<S, Migration>
     requires { conn.in_transaction ≡ false }
-    ensures over { result.0.in_transaction ≡ false }
-    ensures migrates { IfOk result.1 (MigratesOpened S.Store register.now conn result.0) }
-    ensures lacks { LacksBoth S.Store register.now conn result.0 result.1 }
-    ensures stops { StopsMoving S.Store register.now conn result.0 }
+    ensures over { result.conn.in_transaction ≡ false }
+    ensures migrates { IfOk result.told (MigratesOpened S.Store register.now conn result.conn) }
+    ensures lacks { LacksBoth S.Store register.now conn result.conn result.told }
+    ensures stops { StopsMoving S.Store register.now conn result.conn }
 {
     let first = is_first(&conn);
     match Store::<S, Brand>::migrate(alloc, seed, conn, register) {
-        Ok(store) => (store.into_connection(), Ok(told_of(first))),
-        Err((conn, refusal)) => (conn, Err(refusal)),
+        Ok(store) => Returned {
+            conn: store.into_connection(),
+            told: Ok(told_of(first)),
+        },
+        Err((conn, refusal)) => Returned {
+            conn,
+            told: Err(refusal),
+        },
     }
 }

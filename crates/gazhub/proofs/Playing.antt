@@ -9,10 +9,7 @@ use Rattle.gaz_quiet.proofs.Clean.{quiet_is_clean}
 use Rattle.gaz_register.specs.Reading.{register_of}
 use Rattle.gaz_register.specs.Registers.{RegisterValue}
 use Rattle.gaz_register.specs.Texts.{register_text}
-use Rattle.gaz_hub.specs.Hubs.{door_of}
-use Rattle.gaz_hub.specs.Answers.{AllAnswered}
 use Rattle.gaz_hub.specs.Step.{HubState, new_hub}
-use Rattle.gaz_hub.proofs.Runs.{abides_after}
 use Rattle.gaz_exchange.specs.Conversing.{Transfer}
 use Rattle.gaz_exchange.specs.declared.conversation.Served.{Served}
 use Rattle.gaz_exchange.specs.declared.conversation.Stopped.{Stopped}
@@ -23,7 +20,7 @@ use Rattle.gaz_store.specs.Opened.{IsMade}
 use Rattle.gaz_store.specs.Store.{seen_in}
 use Rattle.gaz_store.specs.declared.store.Store.{Store}
 use Rattle.gaz_stored.proofs.Using.{made_alone}
-use Rattle.gaz_stored.specs.Runs.{hub_in}
+use Rattle.gaz_stored.specs.Runs.{GoesOn, WentOn, hub_in}
 use Rattle.gaz_stored.specs.Using.{UsesOpened, seen_as}
 use Rattle.gaz_stored.specs.Ways.{Converses}
 use Rattle.gazhub.specs.Playing.{IsNew, Plays}
@@ -42,11 +39,8 @@ pub plays : (text : List ℕ) (most : ℕ) (through : Transfer) (ended : Result 
     → register_of text ≡ Ok register → IsNew register before → UsesOpened over_files register (Converses (seen_as (register_text register)) register most through ended) before after
     → Plays text most through ended
 plays text most through ended register before after described new told =
-    let d = door_of register in
-    let was = hub_in (file_state before).now in
     let stood = new.store.stands in
-    let went = told.uses.went_on (quiet_is_clean after) stood in
-    let empty : was ≡ new_hub = new.went.run in
+    let empty : hub_in (file_state before).now ≡ new_hub = new.went.run in
     record {
       register = register;
       described = described;
@@ -54,8 +48,6 @@ plays text most through ended register before after described new told =
       after = after;
       new = new;
       uses = told;
-      hub = went.last;
-      abides = abides_after d was _ _ went.last empty went.went.abides;
-      answers = subst (λ (h : HubState). AllAnswered d h.received told.commands told.responses went.last.received) empty went.went.answers;
-      tables = λ is_open. abides_after d was _ _ (hub_in (file_state after).now) empty (told.uses.goes_on (unharmed after is_open) stood).went.abides;
+      went_on = subst (λ (h : HubState). WentOn register h told.commands told.responses) empty (told.uses.went_on (quiet_is_clean after) stood);
+      goes_on = λ is_open. subst (λ (h : HubState). GoesOn register h told.commands told.responses (file_state after).now) empty (told.uses.goes_on (unharmed after is_open) stood);
     }

@@ -3,12 +3,13 @@ use Rattle.std.proofs.Common.{◌≡◌, ℕ, false, List, Ok, Err, Result, IfOk
 use Rattle.std.specs.Io.KnownBytes.{Keeps}
 use Rattle.sqlite_disk.specs.declared.Disk as disk
 use Rattle.gaz_kept.specs.declared.refusal.StoreRefusal.{StoreRefusal}
-use Rattle.gaz_stored.specs.Attending.{IsAnnounced}
+use Rattle.gaz_stored.specs.Announcing.{IsAnnounced}
+use Rattle.gaz_stored.specs.Serving.{AreSome}
 use Rattle.gaz_stored.specs.declared.attending.Unserved.{Unserved}
 use Rattle.gaz_stored.specs.declared.attending.Unserved.TheVariants.{NoPort, Unwritten}
 use Rattle.gaz_words.specs.declared.command.Places.{Places}
 use Rattle.gazhub.specs.Endings.{is_silent}
-use Rattle.gazhub.specs.Serving.{AreSome, NoMore, ServesRest, Untold, Whole, said_of_serving}
+use Rattle.gazhub.specs.Serving.{NoMore, ServesRest, Untold, Whole, said_of_serving}
 use Rattle.gazhub.specs.Sites.{Deed}
 use Rattle.gazhub.specs.declared.ending.Ending.{Ending}
 

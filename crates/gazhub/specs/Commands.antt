@@ -1,13 +1,12 @@
 -- What the program does at its words, and how it ends.
-use Rattle.std.specs.Prelude.{◌≡◌, ℕ, zero, suc, Bool, true, false, List, Option, Some, None}
+use Rattle.std.specs.Prelude.{◌≡◌, ℕ, Bool, true, false, if◌then◌else◌, List, Option, Some, None}
 use Rattle.std.specs.Prelude.{Result, Ok, Err}
 use Rattle.std.specs.Io.KnownBytes.{Appends, Keeps}
 use Rattle.clap.specs.declared.error.Error.{Error}
 use Rattle.clap.specs.declared.error.kind.ErrorKind.{ErrorKind}
 use Rattle.clap.specs.declared.error.kind.ErrorKind.TheVariants as kind
 use Rattle.sqlite_disk.specs.declared.Disk as disk
-use Rattle.gaz_commands.specs.Saying.{text_of}
-use Rattle.gaz_commands.specs.Saying as saying
+use Rattle.gaz_commands.specs.Saying.{is_said_done, text_of}
 use Rattle.gaz_commands.specs.declared.said.Said.{Said}
 use Rattle.gaz_commands.specs.declared.said.Said.TheVariants as said
 use Rattle.gaz_exchange.specs.Conversing.{Transfer}
@@ -15,7 +14,7 @@ use Rattle.gaz_exchange.specs.Sending.{IsPut}
 use Rattle.gaz_exchange.specs.declared.conversation.Served.{Served}
 use Rattle.gaz_exchange.specs.declared.supply.Cause.{Cause}
 use Rattle.gaz_exchange.specs.declared.supply.Cause.TheVariants as cause
-use Rattle.gaz_stored.specs.Answering.{IsUnheard}
+use Rattle.gaz_stored.specs.Unheard.{IsUnheard}
 use Rattle.gaz_words.specs.Meaning.{Means}
 use Rattle.gaz_words.specs.Words.{asks_play}
 use Rattle.gaz_words.specs.declared.command.Command.{Command}
@@ -45,23 +44,20 @@ Holds text most through ReadFault = StopsFor cause.ReadFault text most through
 Holds text most through WriteFault = StopsFor cause.WriteFault text most through
 Holds text most through _ = ⊥
 
--- nothing was read; and nothing was printed, at usage and at faults but that of the output
+-- nothing was read; and nothing was printed, at usage and at faults but that of the output and that
+-- of a hub that was lost
 pub record StaysSilent (through : Transfer) (ending : Ending) : Type 0 where
   pub read : Keeps through.had through.left
   pub printed : is_silent ending ≡ true → Keeps through.held through.holds
 
--- a status of 0 says that what was asked for was done
-abbrev pub done_where : ℕ → Ending
-done_where zero = Done
-done_where (suc n) = NotDone
-
--- what a command says was printed, and the program ends by it, unless the output failed; of a fault
--- nothing is printed
+-- what a command says was printed, and the program ends by whether what was asked for was done,
+-- unless the output failed; of a fault nothing is printed
 abbrev pub IsTold : Option (List ℕ) → Option (List ℕ) → Said → Ending → Type 0
 IsTold held holds (said.Failed fault) ending = (ending ≡ Failed fault) × Keeps held holds
 IsTold held holds said WriteFault = Unit {0}
 IsTold held holds said ending =
-    Appends held holds (text_of said) × (ending ≡ done_where (saying.status_of said))
+    Appends held holds (text_of said)
+    × (ending ≡ (if is_said_done said then Done else NotDone))
 
 -- how the program ends where a command came to this, or there was no hub
 abbrev pub IsFinished : Option (List ℕ) → Option (List ℕ) → Result Said WhyNoHub → Ending → Type 0

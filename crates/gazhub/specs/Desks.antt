@@ -1,9 +1,14 @@
 -- A site in memory, of which it is known what is done at it: texts at paths, the files of one
 -- store, and a peer that may come.
-use Rattle.std.specs.Prelude.{◌≡◌, ◌⊎◌, ℕ, List, [], Option, Some, None}
+use Rattle.std.specs.Prelude.{◌≡◌, ◌≤◌, ⊤, ℕ, List, [], length, Option, Some, None}
 use Rattle.sqlite_disk.specs.declared.Files.{Files}
 use Rattle.gaz_stored.specs.Meetings.{Meeting, Missed, Came, Left}
 use Rattle.gazhub.specs.Sites.{Closed, Deed, Listened, Met, Opened, Read}
+
+-- a text is read whole or not at all: it is too long, or there is no memory
+abbrev pub IsReadOf : List ℕ → ℕ → Option (List ℕ) → Type 0
+IsReadOf text most None = ⊤
+IsReadOf text most (Some bytes) = (bytes ≡ text) × (length text ≤ most)
 
 -- Below, a state of it has these texts at paths and these files; this is what a peer says that is
 -- still to come, and that is what the last one was told.
@@ -24,10 +29,10 @@ module _ {S D : Type 0} (text : S → List ℕ → List ℕ) (files : S → Opti
   IsMet old (Left left holds is_whole) new = (holds ≡ Some (told new)) × (says new ≡ says old)
       × (files new ≡ files old) × KeepsTexts old new
 
-  -- a text is read whole, unless it is too long or there is no memory; the files are found where
-  -- they are, are gone while they are open, and are back once they are closed
+  -- the files are found where they are, are gone while they are open, and are back once they are
+  -- closed
   abbrev pub IsDone : S → Deed D → S → Type 0
-  IsDone old (Read path most bytes) new = ((bytes ≡ None) ⊎ (bytes ≡ Some (text old path)))
+  IsDone old (Read path most bytes) new = IsReadOf (text old path) most bytes
       × KeepsPeers old new × (files new ≡ files old) × KeepsTexts old new
   IsDone old (Opened path purpose found) new =
       (found ≡ files old) × (files new ≡ None) × KeepsPeers old new × KeepsTexts old new

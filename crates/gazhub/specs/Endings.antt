@@ -53,8 +53,9 @@ line_of (ending.Lost why) = no_hub_line why
 line_of (ending.Failed why) = error_line why
 line_of _ = []
 
--- nothing is printed on standard output: at usage, and at each fault but that of the output and
--- that of a hub that was lost
+-- where a command over a store ends so, or words that mean no command, nothing was printed on
+-- standard output: at usage, and at each fault but that of the output and that of a hub that was
+-- lost. A conversation may have replied before its fault
 abbrev pub is_silent : Ending → Bool
 is_silent ending.Done = false
 is_silent ending.NotDone = false

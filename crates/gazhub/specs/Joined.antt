@@ -8,7 +8,6 @@ use Rattle.sqlite.specs.State.{HasCleanDisk}
 use Rattle.sqlite_disk.specs.declared.Disk as disk
 use Rattle.sqlite_disk.specs.declared.Files.{Files}
 use Rattle.sqlite_store.specs.declared.store.FileStore.{FileStore}
-use Rattle.sqlite_trees.specs.declared.store.Store.{Ghosts}
 use Rattle.gaz_register.specs.Registers.{IsRegister, RegisterValue}
 use Rattle.gaz_tables.specs.Creating.{HasRoom}
 use Rattle.gaz_kept.specs.declared.refusal.StoreRefusal.{StoreRefusal}
@@ -29,10 +28,6 @@ use Rattle.gazhub.specs.Filing.{AsksStore, Closes, Connects, ExtendsStore, HasNe
 use Rattle.gazhub.specs.Filing.{Makes, MigratesStore, OverFiles, ServesStore}
 
 module _ {D : Type 0} (g : disk.Ghosts D) where
-  -- how a database in files is shown
-  abbrev shown : Ghosts (FileStore D g)
-  shown = over_files
-
   -- a call over files that it was given and those that it gave back, as its contract says: it asked
   -- a hub, answered connections, let a register grow or migrated a store; or it was refused
   pub data CallOver (files : Files D) (left : Option (Files D)) : Type 0 where
@@ -46,7 +41,7 @@ module _ {D : Type 0} (g : disk.Ghosts D) where
         → ExtendsStore g files left register grown told → CallOver files left
     Migrated : (register : RegisterValue) (told : Migration)
         → MigratesStore g files left register told → CallOver files left
-    Declined : OverFiles g files left (IsRefused shown) → CallOver files left
+    Declined : OverFiles g files left (IsRefused over_files) → CallOver files left
 
   -- what was done over a connection is said otherwise
   abbrev said_as : {files : Files D} {left : Option (Files D)}
@@ -63,7 +58,7 @@ module _ {D : Type 0} (g : disk.Ghosts D) where
 
   -- what a call came to
   abbrev pub came_over : {files : Files D} {left : Option (Files D)} → CallOver files left
-      → OverFiles g files left (CameTo shown)
+      → OverFiles g files left (CameTo over_files)
   came_over (Asked register call answer is asks) =
       said_as (λ _ _ it. Used register it.first it.commands it.responses is it.uses) asks
   came_over (Served register most held met is serves) =
@@ -80,9 +75,9 @@ module _ {D : Type 0} (g : disk.Ghosts D) where
     pub left : Option (Files D)
     pub call : CallOver files left
     pub found : Database
-    pub is_found : IsFoundAfter shown (came_over call).conn (came_over call).after found
+    pub is_found : IsFoundAfter over_files (came_over call).conn (came_over call).after found
 
-  abbrev pub call_over : FileCall → Call shown
+  abbrev pub call_over : FileCall → Call (over_files {D = D} {g = g})
   call_over it =
       let over = came_over it.call in
       record {
@@ -100,7 +95,7 @@ module _ {D : Type 0} (g : disk.Ghosts D) where
 
   -- the next call was given the files that this one gave back; or it shows what a stop left of it
   abbrev pub IsPassedOn : {before after : Held (FileStore D g)} {found : Database}
-      → IsFoundAfter shown before after found → Option (Files D) → FileCall → Type 0
+      → IsFoundAfter over_files before after found → Option (Files D) → FileCall → Type 0
   IsPassedOn (Whole fine same) left next = IsGiven next left
   IsPassedOn {before} {after} {found} (CutOff itself may) left next =
       (file_state (came_over next.call).conn).now ≡ found
@@ -113,7 +108,7 @@ module _ {D : Type 0} (g : disk.Ghosts D) where
   -- from what a database stands for they are one run of one hub, over registers of which each
   -- extends the one before
   abbrev pub AreOne : RegisterValue → Database → List FileCall → Type 0
-  AreOne register db calls = AreOneRun shown register db (map call_over calls)
+  AreOne register db calls = AreOneRun over_files register db (map call_over calls)
 
   -- calls over the same files are one run, from a store that is there or behind one that was made
   -- or migrated

@@ -1,19 +1,15 @@
 -- A whole conversation of a hub over a store in memory that begins with nothing.
 use Rattle.std.specs.Prelude.{◌≡◌, ℕ, List, [], IsTrue, Result, Ok}
-use Rattle.std.specs.FinMap as map
 use Rattle.sqlite.specs.Files.{file_state, over_files}
 use Rattle.gaz_quiet.specs.Databases.{Quiet}
 use Rattle.gaz_register.specs.Reading.{register_of}
 use Rattle.gaz_register.specs.Registers.{RegisterValue}
 use Rattle.gaz_register.specs.Texts.{register_text}
-use Rattle.gaz_hub.specs.Answers.{AllAnswered}
-use Rattle.gaz_hub.specs.Hubs.{door_of}
-use Rattle.gaz_hub.specs.Runs.{Abides}
-use Rattle.gaz_hub.specs.Step.{HubState, new_hub}
+use Rattle.gaz_hub.specs.Step.{new_hub}
 use Rattle.gaz_exchange.specs.Conversing.{Transfer}
 use Rattle.gaz_exchange.specs.declared.conversation.Served.{Served}
 use Rattle.gaz_exchange.specs.declared.conversation.Stopped.{Stopped}
-use Rattle.gaz_stored.specs.Runs.{GoesOn, hub_in}
+use Rattle.gaz_stored.specs.Runs.{GoesOn, WentOn}
 use Rattle.gaz_stored.specs.Using.{UsesOpened, seen_as}
 use Rattle.gaz_stored.specs.Ways.{Converses}
 
@@ -32,12 +28,8 @@ pub record Plays (text : List ℕ) (most : ℕ) (through : Transfer) (ended : Re
   pub new : IsNew register before
   pub uses : UsesOpened over_files register (Converses (seen_as (register_text register)) register
       most through ended) before after
-  -- step by step the hub went to one of which this is so: what was received is what came first, and
-  -- the board is partial over it,
-  pub hub : HubState
-  pub abides : Abides (door_of register) uses.commands uses.responses hub
-  -- and each answer is read off the standing board of the files that were received by then
-  pub answers : AllAnswered (door_of register) map.empty uses.commands uses.responses hub.received
-  -- so it is of what the tables stand for in the end, where the database is still open
-  pub tables : IsTrue (file_state after).is_open → Abides (door_of register) uses.commands
-      uses.responses (hub_in (file_state after).now)
+  -- from one that begins with nothing the hub went on, whatever a failure shut
+  pub went_on : WentOn register new_hub uses.commands uses.responses
+  -- and to what the tables stand for, where the database is still open
+  pub goes_on : IsTrue (file_state after).is_open
+      → GoesOn register new_hub uses.commands uses.responses (file_state after).now

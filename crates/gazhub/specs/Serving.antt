@@ -1,12 +1,13 @@
 -- What comes of connections that are answered over the store at a path.
-use Rattle.std.specs.Prelude.{◌≡◌, ◌≤◌, ◌-◌, ◌++◌, ℕ, List, [], ◌∷◌, map, Option, Some, None}
+use Rattle.std.specs.Prelude.{◌≡◌, ◌-◌, ◌++◌, ℕ, List, [], ◌∷◌, map, Option, Some, None}
 use Rattle.std.specs.Prelude.{Result, Ok, Err, IfOk, IfErr, OnErr}
 use Rattle.sqlite_disk.specs.declared.Disk as disk
 use Rattle.sqlite_disk.specs.declared.Files.{Files}
 use Rattle.gaz_kept.specs.declared.refusal.StoreRefusal.{StoreRefusal}
 use Rattle.gaz_register.specs.Registers.{RegisterValue}
-use Rattle.gaz_stored.specs.Attending.{IsAnnounced}
+use Rattle.gaz_stored.specs.Announcing.{IsAnnounced}
 use Rattle.gaz_stored.specs.Meetings.{Meeting}
+use Rattle.gaz_stored.specs.Serving.{AreSome}
 use Rattle.gaz_stored.specs.declared.attending.Unserved.{Unserved}
 use Rattle.gaz_stored.specs.declared.attending.Unserved.TheVariants.{NoPort, Unwritten}
 use Rattle.gaz_words.specs.declared.command.Places.{Places}
@@ -26,10 +27,6 @@ said_of_serving (Ok (Ok served)) = Ok (Some served)
 said_of_serving (Ok (Err Unwritten)) = Ok None
 said_of_serving (Ok (Err NoPort)) = Err none.NoPort
 said_of_serving (Err refusal) = Err (none.Store refusal)
-
--- so many of the connections that are wanted were answered: one at least
-abbrev pub AreSome : ℕ → ℕ → Type 0
-AreSome connections served = (served ≤ connections) × (1 ≤ connections → 1 ≤ served)
 
 -- Below, g is what is seen of a disk, done says of a site between which states a deed can be, and
 -- had and has are what the writer held and holds.

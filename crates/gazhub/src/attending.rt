@@ -1,12 +1,14 @@
 //! Connections over the store at a path are answered.
 ghost use Rattle.std.specs.Prelude.{◌≡◌, IfErr, IfOk, IfSome, IsTrue, true};
 ghost use Rattle.std.specs.Io.KnownBytes.{Keeps};
+ghost use Rattle.gaz_stored.specs.Serving.{AreSome};
 ghost use Rattle.gazhub.specs.Endings.{is_silent};
-ghost use Rattle.gazhub.specs.Serving.{AreSome, ServeComesTo, ServesIn, ServesOnce, ServesRest};
+ghost use Rattle.gazhub.specs.Serving.{ServeComesTo, ServesIn, ServesOnce, ServesRest};
 ghost use Rattle.gazhub.specs.Serving.{said_of_serving};
 
 use crate::ending::Ending;
 use crate::files::{NoHub, open_files, read_register};
+use crate::files_back::FilesBack;
 use crate::site::{Purpose, Site};
 use crate::stores::serve_store;
 use gaz_ledger::Seed;
@@ -51,7 +53,7 @@ fn serve_in<S: Site, W: Write>(
     ensures some { IfOk result (λ told. IfSome told (AreSome serving.connections)) }
 {
     let port = site.listen(serving.port);
-    let (left, held) = serve_store(
+    let FilesBack { left, told: held } = serve_store(
         alloc,
         files,
         options,

@@ -2,6 +2,7 @@
 ghost use Rattle.gazhub.specs.Working.{AskComesTo, InitComesTo};
 
 use crate::files::{NoHub, of_store, open_files, read_change_file, read_register};
+use crate::files_back::FilesBack;
 use crate::site::{Purpose, Site};
 use crate::stores::{ask_store, make_store};
 use gaz_commands::Said;
@@ -20,7 +21,7 @@ pub fn init<S: Site>(
 {
     let register = read_register(site, alloc, places.register)?;
     let (files, options) = open_files(site, places.store, Purpose::Make)?;
-    let (left, made) = make_store(alloc, files, options, seed, &register);
+    let FilesBack { left, told: made } = make_store(alloc, files, options, seed, &register);
     site.close(left);
     of_store(made)
 }
@@ -39,7 +40,9 @@ pub fn ask<S: Site>(
     let (files, options) = open_files(site, places.store, Purpose::Use)?;
     let bytes = read_change_file(site, call);
     let file = bytes.as_deref();
-    let (left, said) = ask_store(alloc, files, options, seed, register, call, file);
+    let FilesBack { left, told: said } = ask_store(
+        alloc, files, options, seed, register, call, file,
+    );
     site.close(left);
     of_store(said)
 }

@@ -5,13 +5,14 @@ ghost use Rattle.gazhub.specs.Changing.{not_extended, said_of_growth};
 ghost use Rattle.gazhub.specs.Working.{ExtendComesTo};
 
 use crate::files::{NoHub, open_files, read_register};
+use crate::files_back::FilesBack;
 use crate::site::{Purpose, Site};
 use crate::stores::{close, connect};
 use gaz_commands::{PrintedLine, Said};
 use gaz_ledger::Seed;
 use gaz_register::{GrowFault, Register};
 use gaz_store::{ExtendFault, StoreRefusal};
-use gaz_stored::extend_opened;
+use gaz_stored::{Returned, extend_opened};
 use gaz_words::Places;
 use sqlite::{Files, Options};
 use sqlite_disk::Disk;
@@ -27,22 +28,19 @@ pub fn extend_store<D: Disk + Drop>(
     seed: Seed,
     register: Register,
     grown: Register,
-) -> (
-    Option<Files<D>>,
-    Result<Result<(), ExtendFault>, StoreRefusal>,
-)
+) -> FilesBack<D, Result<(), ExtendFault>>
     requires log { IsTrue (D.Disk.is_usable files.log) }
     requires db { IsTrue (D.Disk.is_usable files.db) }
-    ensures extends { IfOk result.1 (ExtendsStore D.Disk files result.0 register grown) }
-    ensures none { IfErr result.1 (OpensNone D.Disk files result.0 register) }
+    ensures extends { IfOk result.told (ExtendsStore D.Disk files result.left register grown) }
+    ensures none { IfErr result.told (OpensNone D.Disk files result.left register) }
 {
     let conn = match connect(alloc, files, options) {
         Ok(conn) => conn,
-        Err(left) => return (Some(left), Err(StoreRefusal::Fault)),
+        Err(left) => return FilesBack::unconnected(left),
     };
-    let (conn, told) = extend_opened(alloc, seed, conn, register, grown);
+    let Returned { conn, told } = extend_opened(alloc, seed, conn, register, grown);
     let left = close(conn);
-    (left, told)
+    FilesBack { left, told }
 }
 
 // What is said where a store's register didn't grow: that what it was to grow to is no growth of it
@@ -86,7 +84,7 @@ pub fn extend<S: Site>(
     let register = read_register(site, alloc, places.register)?;
     let grown = read_register(site, alloc, grown)?;
     let (files, options) = open_files(site, places.store, Purpose::Use)?;
-    let (left, told) = extend_store(alloc, files, options, seed, register, grown);
+    let FilesBack { left, told } = extend_store(alloc, files, options, seed, register, grown);
     site.close(left);
     said_of_growth(told)
 }

@@ -1,5 +1,5 @@
 //! The system's own files, and a port of it.
-ghost use Rattle.std.specs.Prelude.{⊤};
+ghost use Rattle.std.specs.Prelude.{◌≤◌, ⊤, IfOk, length};
 
 use crate::port::{accepted, part};
 use crate::site::{Purpose, Site};
@@ -55,9 +55,13 @@ impl<'a> Host<'a> {
     }
 
     // So many bytes at most of a file.
-    fn read_some(&self, path: &str, most: u64) -> io::Result<Vec<u8>> {
+    fn read_some(&self, path: &str, most: u64) -> io::Result<Vec<u8>>
+        ensures { IfOk result (λ bytes. length bytes.items ≤ most) }
+    {
         let mut bytes = Vec::new(self.rt.alloc());
         fs::open(self.rt, path)?.take(most).read_to_end(&mut bytes)?;
+        // They are no more, which of a file no clause of std's says.
+        bytes.truncate(most as usize);
         Ok(bytes)
     }
 

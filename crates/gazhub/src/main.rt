@@ -8,6 +8,7 @@ mod commands;
 mod desk;
 mod ending;
 mod files;
+mod files_back;
 mod growing;
 mod host;
 mod laws;

@@ -5,13 +5,14 @@ ghost use Rattle.gazhub.specs.Changing.{said_of_migration};
 ghost use Rattle.gazhub.specs.Working.{MigrateComesTo};
 
 use crate::files::{NoHub, open_files, read_register};
+use crate::files_back::FilesBack;
 use crate::site::{Purpose, Site};
 use crate::stores::{close, connect};
 use gaz_commands::{PrintedLine, Said};
 use gaz_ledger::Seed;
 use gaz_register::Register;
 use gaz_store::StoreRefusal;
-use gaz_stored::{Migration, migrate_opened};
+use gaz_stored::{Migration, Returned, migrate_opened};
 use gaz_words::Places;
 use sqlite::{Files, Options};
 use sqlite_disk::Disk;
@@ -26,19 +27,19 @@ pub fn migrate_store<D: Disk + Drop>(
     options: Options,
     seed: Seed,
     register: &Register,
-) -> (Option<Files<D>>, Result<Migration, StoreRefusal>)
+) -> FilesBack<D, Migration>
     requires log { IsTrue (D.Disk.is_usable files.log) }
     requires db { IsTrue (D.Disk.is_usable files.db) }
-    ensures migrates { IfOk result.1 (MigratesStore D.Disk files result.0 register.now) }
-    ensures none { IfErr result.1 (MigratesNone D.Disk files result.0 register.now) }
+    ensures migrates { IfOk result.told (MigratesStore D.Disk files result.left register.now) }
+    ensures none { IfErr result.told (MigratesNone D.Disk files result.left register.now) }
 {
     let conn = match connect(alloc, files, options) {
         Ok(conn) => conn,
-        Err(left) => return (Some(left), Err(StoreRefusal::Fault)),
+        Err(left) => return FilesBack::unconnected(left),
     };
-    let (conn, told) = migrate_opened(alloc, seed, conn, register);
+    let Returned { conn, told } = migrate_opened(alloc, seed, conn, register);
     let left = close(conn);
-    (left, told)
+    FilesBack { left, told }
 }
 
 // What is said of a store that was to be migrated, or why there is none.
@@ -64,7 +65,7 @@ pub fn migrate<S: Site>(
 {
     let register = read_register(site, alloc, places.register)?;
     let (files, options) = open_files(site, places.store, Purpose::Migrate)?;
-    let (left, told) = migrate_store(alloc, files, options, seed, &register);
+    let FilesBack { left, told } = migrate_store(alloc, files, options, seed, &register);
     site.close(left);
     said_of_migration(told)
 }

@@ -35,7 +35,7 @@ fn tell<W: Write>(w: &mut W, said: &Said) -> Ending
     if !print(w, said) {
         return Ending::WriteFault;
     }
-    if said.status() == 0 {
+    if said.is_done() {
         Ending::Done
     } else {
         Ending::NotDone

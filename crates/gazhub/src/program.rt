@@ -2,7 +2,7 @@
 ghost use Rattle.std.specs.Prelude.{◌≡◌, false, IfSome, None, Ok};
 ghost use Rattle.gaz_register.specs.Reading.{register_of};
 ghost use Rattle.gaz_exchange.specs.Conversing.{StopsByFault, transfer};
-ghost use Rattle.gaz_stored.specs.Answering.{IsUnheard};
+ghost use Rattle.gaz_stored.specs.Unheard.{IsUnheard};
 ghost use Rattle.gazhub.specs.Commands.{Holds};
 ghost use Rattle.gazhub.specs.Playing.{IsNew, Plays};
 

@@ -1,5 +1,5 @@
 //! What a command reaches outside: files at paths, and a port with the peers that come to it.
-ghost use Rattle.std.specs.Prelude.{IfSome, IsTrue};
+ghost use Rattle.std.specs.Prelude.{◌≤◌, IfSome, IsTrue, length};
 ghost use Rattle.gaz_stored.specs.Meetings.{Meeting};
 ghost use Rattle.gazhub.specs.Sites.{Closed, Deed, Listened, Met, Opened, Read, bytes_of, files_of};
 
@@ -29,7 +29,8 @@ pub trait Site: Peers {
 
     /// So many bytes at most of the file at a path; none where it can't be read.
     fn read(&mut self, path: &str, most: u64) -> Option<Vec<u8>>
-        ensures { done self.old (Read path.now most (bytes_of result)) self.new };
+        ensures most { IfSome result (λ bytes. length bytes.items ≤ most) }
+        ensures read { done self.old (Read path.now most (bytes_of result)) self.new };
 
     /// The database at a path and its log, which are made where they are missing, and how they are
     /// used; none where they can't be opened, where a store is to be there and isn't, or where the

@@ -1,17 +1,18 @@
 //! Commands over a store's two files, whatever disk they are on.
 ghost use Rattle.std.specs.Prelude.{◌≡◌, false, IfErr, IfOk, IsTrue, option_map};
+ghost use Rattle.gaz_stored.specs.Announcing.{IsAnnounced};
 ghost use Rattle.gaz_stored.specs.Asking.{asked};
-ghost use Rattle.gaz_stored.specs.Attending.{IsAnnounced};
 ghost use Rattle.gaz_stored.specs.Meetings.{WithPeers};
+ghost use Rattle.gaz_stored.specs.Serving.{AreSome};
 ghost use Rattle.gazhub.specs.Filing.{AsksStore, Closes, Connects, FailsToConnect, MakesNone};
 ghost use Rattle.gazhub.specs.Filing.{MakesStore, OpensNone, ServesStore};
-ghost use Rattle.gazhub.specs.Serving.{AreSome};
 
+use crate::files_back::FilesBack;
 use gaz_commands::{PrintedLine, Said};
 use gaz_ledger::Seed;
 use gaz_register::Register;
 use gaz_store::{Store, StoreRefusal};
-use gaz_stored::{HandedBack, MOST_REQUESTS, Peers, Unserved, ask_opened, serve_opened};
+use gaz_stored::{HandedBack, MOST_REQUESTS, Peers, Returned, Unserved, ask_opened, serve_opened};
 use gaz_words::Call;
 use sqlite::{Connection, FileStore, Files, Options};
 use sqlite_disk::Disk;
@@ -65,24 +66,30 @@ pub fn make_store<D: Disk + Drop>(
     options: Options,
     seed: Seed,
     register: &Register,
-) -> (Option<Files<D>>, Result<Said, StoreRefusal>)
+) -> FilesBack<D, Said>
     requires log { IsTrue (D.Disk.is_usable files.log) }
     requires db { IsTrue (D.Disk.is_usable files.db) }
-    ensures made { IfOk result.1 (MakesStore D.Disk files result.0 register.now) }
-    ensures none { IfErr result.1 (MakesNone D.Disk files result.0 register.now) }
+    ensures made { IfOk result.told (MakesStore D.Disk files result.left register.now) }
+    ensures none { IfErr result.told (MakesNone D.Disk files result.left register.now) }
 {
     let conn = match connect(alloc, files, options) {
         Ok(conn) => conn,
-        Err(left) => return (Some(left), Err(StoreRefusal::Fault)),
+        Err(left) => return FilesBack::unconnected(left),
     };
     match Store::<_, Brand>::create(alloc, seed, conn, register) {
         Ok(store) => {
             let left = close(store.into_connection());
-            (left, Ok(Said::Line(PrintedLine::Ready)))
+            FilesBack {
+                left,
+                told: Ok(Said::Line(PrintedLine::Ready)),
+            }
         }
         Err((conn, refusal)) => {
             let left = close(conn);
-            (left, Err(refusal))
+            FilesBack {
+                left,
+                told: Err(refusal),
+            }
         }
     }
 }
@@ -98,20 +105,20 @@ pub fn ask_store<D: Disk + Drop>(
     register: Register,
     call: Call<'_>,
     file: Option<&[u8]>,
-) -> (Option<Files<D>>, Result<Said, StoreRefusal>)
+) -> FilesBack<D, Said>
     requires log { IsTrue (D.Disk.is_usable files.log) }
     requires db { IsTrue (D.Disk.is_usable files.db) }
-    ensures asked { IfOk result.1 (AsksStore D.Disk files result.0 register
+    ensures asked { IfOk result.told (AsksStore D.Disk files result.left register
         (asked call.entry (option_map (λ bytes. bytes.now) file.entry))) }
-    ensures none { IfErr result.1 (OpensNone D.Disk files result.0 register) }
+    ensures none { IfErr result.told (OpensNone D.Disk files result.left register) }
 {
     let conn = match connect(alloc, files, options) {
         Ok(conn) => conn,
-        Err(left) => return (Some(left), Err(StoreRefusal::Fault)),
+        Err(left) => return FilesBack::unconnected(left),
     };
-    let (conn, told) = ask_opened(alloc, seed, conn, register, call, file);
+    let Returned { conn, told } = ask_opened(alloc, seed, conn, register, call, file);
     let left = close(conn);
-    (left, told)
+    FilesBack { left, told }
 }
 
 /// Answers at most so many peers at a hub of the register over the store in the files, which are
@@ -128,23 +135,20 @@ pub fn serve_store<D: Disk + Drop, P: Peers, W: Write>(
     peers: &mut P,
     w: &mut W,
     connections: u64,
-) -> (
-    Option<Files<D>>,
-    Result<Result<u64, Unserved>, StoreRefusal>,
-)
+) -> FilesBack<D, Result<u64, Unserved>>
     requires log { IsTrue (D.Disk.is_usable files.log) }
     requires db { IsTrue (D.Disk.is_usable files.db) }
-    ensures served { IfOk result.1 (λ held.
+    ensures served { IfOk result.told (λ held.
         WithPeers P.meets P.Reader.Source.failed P.Writer.Sink.failed
-        (ServesStore D.Disk files result.0 register MOST_REQUESTS held) peers.old peers.new) }
-    ensures nobody { IfErr result.1 (λ _. peers.new ≡ peers.old) }
-    ensures many { IfOk result.1 (λ served. IfOk served (AreSome connections)) }
-    ensures none { IfErr result.1 (OpensNone D.Disk files result.0 register) }
-    ensures announced { IsAnnounced port (W.contents w.old) (W.contents w.new) result.1 }
+        (ServesStore D.Disk files result.left register MOST_REQUESTS held) peers.old peers.new) }
+    ensures nobody { IfErr result.told (λ _. peers.new ≡ peers.old) }
+    ensures many { IfOk result.told (λ served. IfOk served (AreSome connections)) }
+    ensures none { IfErr result.told (OpensNone D.Disk files result.left register) }
+    ensures announced { IsAnnounced port (W.contents w.old) (W.contents w.new) result.told }
 {
     let conn = match connect(alloc, files, options) {
         Ok(conn) => conn,
-        Err(left) => return (Some(left), Err(StoreRefusal::Fault)),
+        Err(left) => return FilesBack::unconnected(left),
     };
     let HandedBack {
         conn,
@@ -155,5 +159,5 @@ pub fn serve_store<D: Disk + Drop, P: Peers, W: Write>(
     // piece.
     forget(at_hand);
     let left = close(conn);
-    (left, told)
+    FilesBack { left, told }
 }

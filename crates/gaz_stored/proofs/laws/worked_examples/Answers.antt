@@ -1,6 +1,7 @@
 -- What the definitions come to on worked examples.
 use Rattle.std.proofs.Common.{◌≡◌, [], None, Some, codes, inl, inr, refl, sym, ap, subst}
 use Rattle.std.specs.FinMap as map
+use Rattle.std.specs.Fmt.{digits}
 use Rattle.gaz_kept.proofs.Examples.{worked_examples_hold}
 use Rattle.gaz_kept.specs.Contents.{board_in}
 use Rattle.gaz_kept.specs.Examples.{four_rows, six_files}
@@ -11,7 +12,7 @@ use Rattle.gaz_tables.proofs.Four.{received_tree, version2_tree}
 use Rattle.gaz_tables.specs.Schema.{received, version2}
 use Rattle.gaz_tables.specs.Tables.{rows_of}
 use Rattle.gaz_views.specs.declared.verdict.Verdict.TheVariants.{Rejected}
-use Rattle.gaz_stored.specs.Examples.{worked_database, worked_hub}
+use Rattle.gaz_stored.specs.Examples.{WorkedAnnouncing, worked_database, worked_hub}
 use Rattle.gaz_stored.proofs.laws.worked_examples.Goals as goal
 
 its_files : rows_of worked_database received ≡ six_files
@@ -23,6 +24,19 @@ its_rows = ap worked_database.trees version2_tree
 -- what is so of the board of these rows is so of its board
 on_its_board : (P : Board → Type 0) → P (board_in six_files four_rows) → P worked_hub.board
 on_its_board P h = subst (λ files. P (board_in files (rows_of worked_database version2))) (sym its_files) (subst (λ rows. P (board_in six_files rows)) (sym its_rows) h)
+
+announced : WorkedAnnouncing
+unfolding digits
+announced = record {
+  line = refl;
+  says = refl;
+  nowhere = λ it. it;
+  no_port = (refl, refl);
+  not_silent = λ e. absurd (cc);
+  had_port = λ it. let e = it.0 in absurd (cc);
+  no_hub = refl;
+  told_too_soon = λ e. absurd (cc);
+}
 
 pub returns : goal.returns
 returns c = record {
@@ -46,4 +60,5 @@ returns c = record {
     nobody = (refl, record { still = refl; unasked = refl; untold = refl });
     somebody = λ it. let e = it.0 in absurd (cc);
   };
+  on_announcing = announced;
 }

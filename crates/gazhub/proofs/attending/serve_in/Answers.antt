@@ -8,11 +8,11 @@ pub returns-clause-served : goal.returns-clause-served
 returns-clause-served g c =
     let listened = c.listen-port in
     let served = c.serve_store-left in
-    let came = met_in g.S.Site.done g.S.Peers.meets g.met.S.Site.tells g.S.Reader.Source.failed g.S.Writer.Sink.failed (ServesStore g.S.Medium.Disk c.args.files served.result.0 c.args.register MOST_REQUESTS) served.result.0 listened.new.self served.new.peers c.close.new.self
-    served.result.1 served.ensures.served served.ensures.nobody c.close.ensures in
+    let came = met_in g.S.Site.done g.S.Peers.meets g.met.S.Site.tells g.S.Reader.Source.failed g.S.Writer.Sink.failed (ServesStore g.S.Medium.Disk c.args.files served.result.left c.args.register MOST_REQUESTS) served.result.left listened.new.self served.new.peers c.close.new.self
+    served.result.told served.ensures.served served.ensures.nobody c.close.ensures in
     record {
-      left = served.result.0;
-      held = served.result.1;
+      left = served.result.left;
+      held = served.result.told;
       bound = listened.result;
       met = came.0;
       does = (listened.new.self, listened.ensures, came.1);
@@ -25,7 +25,7 @@ returns-clause-served g c =
     }
 
 pub returns-clause-silent : goal.returns-clause-silent
-returns-clause-silent g c = rw c.said_of_serving.ensures (silent_of _ _ _ c.serve_store-left.result.1 c.serve_store-left.ensures.announced)
+returns-clause-silent g c = rw c.said_of_serving.ensures (silent_of _ _ _ c.serve_store-left.result.told c.serve_store-left.ensures.announced)
 
 pub returns-clause-some : goal.returns-clause-some
-returns-clause-some g c = rw c.said_of_serving.ensures (some_of _ c.serve_store-left.result.1 c.serve_store-left.ensures.many)
+returns-clause-some g c = rw c.said_of_serving.ensures (some_of _ c.serve_store-left.result.told c.serve_store-left.ensures.many)

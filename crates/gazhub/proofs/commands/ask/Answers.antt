@@ -16,10 +16,10 @@ pub returns : goal.returns
 returns g c =
     let bytes = c.read_change_file-bytes in
     let told = c.ask_store-left in
-    let does = subst (λ bytes. IfOk told.result.1 (AsksStore g.S.Medium.Disk c.in_ok-files.files told.result.0 c.in_ok-register.register (asked c.args.call bytes))) c.as_deref-file.ensures.value told.ensures.asked in
+    let does = subst (λ bytes. IfOk told.result.told (AsksStore g.S.Medium.Disk c.in_ok-files.files told.result.left c.in_ok-register.register (asked c.args.call bytes))) c.as_deref-file.ensures.value told.ensures.asked in
     HasRegister c.in_ok-register.register _ c.in_ok-register.ensures (HasFiles c.in_ok-files.files _ c.in_ok-files.ensures.found (record {
       bytes = bytes_of bytes.result;
       between = bytes.new.site;
       reads = bytes.ensures;
-      asks = record { left = told.result.0; held = told.result.1; does = does; lacks = told.ensures.none; told_is = c.of_store.ensures; closed = c.close.ensures };
+      asks = record { left = told.result.left; held = told.result.told; does = does; lacks = told.ensures.none; told_is = c.of_store.ensures; closed = c.close.ensures };
     }))

@@ -12,4 +12,4 @@ returns-in_err-files g c =
 pub returns : goal.returns
 returns g c =
     HasRegister c.in_ok-register.register _ c.in_ok-register.ensures (HasFiles c.in_ok-files.files _ c.in_ok-files.ensures.found
-    (record { left = c.make_store-left.result.0; held = c.make_store-left.result.1; does = c.make_store-left.ensures.made; lacks = c.make_store-left.ensures.none; told_is = c.of_store.ensures; closed = c.close.ensures }))
+    (record { left = c.make_store-left.result.left; held = c.make_store-left.result.told; does = c.make_store-left.ensures.made; lacks = c.make_store-left.ensures.none; told_is = c.of_store.ensures; closed = c.close.ensures }))

@@ -16,4 +16,4 @@ returns-in_err-files g c =
 pub returns : goal.returns
 returns g c =
     HasRegister c.in_ok-register.register _ c.in_ok-register.ensures (HasRegister c.in_ok-grown.grown _ c.in_ok-grown.ensures (HasFiles c.in_ok-files.files _ c.in_ok-files.ensures.found
-    (record { left = c.extend_store-left.result.0; held = c.extend_store-left.result.1; does = c.extend_store-left.ensures.extends; lacks = c.extend_store-left.ensures.none; told_is = c.said_of_growth.ensures; closed = c.close.ensures })))
+    (record { left = c.extend_store-left.result.left; held = c.extend_store-left.result.told; does = c.extend_store-left.ensures.extends; lacks = c.extend_store-left.ensures.none; told_is = c.said_of_growth.ensures; closed = c.close.ensures })))

@@ -3,7 +3,7 @@ use Rattle.gazhub.proofs.Filing.{makes_none}
 use Rattle.gazhub.proofs.stores.make_store.Goals as goal
 
 pub returns-in-Err-clause-none : goal.returns-in-Err-clause-none
-returns-in-Err-clause-none g c = inl (refl, c.in-Err.ensures.none)
+returns-in-Err-clause-none g c = rw (c.unconnected.ensures.left, c.unconnected.ensures.told) (inl (refl, c.in-Err.ensures.none))
 
 pub returns-in-Ok-create-clause-made : goal.returns-in-Ok-create-clause-made
 returns-in-Ok-create-clause-made g c = (

@@ -16,7 +16,7 @@ returns-clause-none g c =
 pub returns-clause-many : goal.returns-clause-many
 returns-clause-many g c =
     let served = c.serve_opened-conn in
-    IfOk-weaker served.result.told _ _ (λ held. IfOk-weaker held _ _ (λ n ends. (ends.most, ends.some))) served.ensures.many
+    IfOk-weaker served.result.told _ _ (λ held. IfOk-weaker held _ _ (λ n ends. ends.some)) served.ensures.many
 
 pub returns-in-Err-clause-none : goal.returns-in-Err-clause-none
-returns-in-Err-clause-none g c = inl (refl, c.in-Err.ensures.none)
+returns-in-Err-clause-none g c = rw (c.unconnected.ensures.left, c.unconnected.ensures.told) (inl (refl, c.in-Err.ensures.none))
