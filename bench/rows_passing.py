@@ -1,6 +1,6 @@
 """What it costs that properties pass between custodians: files of 5,000 releases and of 5,000 adoptions beside as many updates, which write two rows as they do, and the adoptions
-beside as many inserts too, which write one; and a small file that gives up
-one property of 50,000 with addresses; by `gazhub play` and by `gazhub serve` over a store in a file, each beside the keeper in memory and a plain hub over Python's `sqlite3`.
+beside as many inserts too, which write one; a small file that gives up
+one property of 50,000 with addresses; and a file of 5,000 cross references of one property that has ten times as many, of a custodian that has given up another; by `gazhub play` and by `gazhub serve` over a store in a file, each beside the keeper in memory and a plain hub over Python's `sqlite3`.
 
     bench/rows_passing.py [PART..]   only these of play and serve
 """
@@ -50,6 +50,14 @@ def one_row(place, way, hubs_of, homes=50_000, each=2_500):
     yield from passing(f"a release within {homes:,} addresses by `{way}`", "an update", given, changed, 1, "files/s")
 
 
+def named_row(place, way, hubs_of, before=10):
+    """A file of cross references of one property, which has many already, beside one of cross references of a property each."""
+    files = streams.named(ROUNDS, before)
+    load, each, one = files[: before + 2], files[before + 2 : before + 2 + ROUNDS], files[before + 2 + ROUNDS :]
+    spread, heaped = spent_on(place, hubs_of, load, (each, one))
+    yield from passing(f"{MANY:,} cross references of one property with {before * MANY:,} by `{way}`", "as many of 5,000 properties", heaped, spread, MANY, "changes/s")
+
+
 WAYS = {"play": by_play, "serve": by_serve}
 
 
@@ -58,6 +66,7 @@ def rows(folder, names=()):
         if not names or way in names:
             yield from many_rows(Place(folder), way, hubs_of)
             yield from one_row(Place(folder), way, hubs_of)
+            yield from named_row(Place(folder), way, hubs_of)
 
 
 if __name__ == "__main__":

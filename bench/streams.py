@@ -240,3 +240,12 @@ def given_up(turns, first, homes=HOMES):
         lpi = f"L{n},{n},ENG,1,{150 if n % 10 == 0 else 200 + n % 100},,,,,Flat 2,12,A,14,,,2001-04-01,"
         rows = [f"24,U,{lpi}", f"21,U,{n},{PLACE}"] if k < turns else [f"24,D,{lpi}", f"91,I,{n},1003,1"]
         yield post((1002, first + k), file_with(1002, first + k, rows, ((1001, 1),), 2))
+
+
+def named(turns, before):
+    """The posts of a county's file of 5,000 properties, of one that gives up another number, and of so many of 5,000 cross references, all of the first property.
+    Then of each turn a file of as many more, of each property one, and behind these of each turn one of the first property's alone."""
+    whose = [lambda k: 1] * before + [lambda k: k + 1] * turns + [lambda k: 1] * turns
+    files = [[f"21,I,{n},{PLACE}" for n in range(1, 5_001)], ["91,I,99999,1002,1"]]
+    files += ([f"23,I,X{turn}A{k},{uprn_of(k)},CTAX,7,2001-04-01," for k in range(5_000)] for turn, uprn_of in enumerate(whose))
+    return [post((1001, volume), file_with(1001, volume, rows, (), 2)) for volume, rows in enumerate(files, 1)]

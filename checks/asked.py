@@ -91,6 +91,8 @@ JUDGED = (
     Judged("a name", (STREET,), "I", (NAME,), 2),
     Judged("a name of no street", (), "I", (NAME,), 2, (2, 38)),
     Judged("a property", (), "I", (BLOCK,), 1),
+    # each change looks up what it changes, and the end rules the property once
+    Judged("a property that changes a hundred times", (BLOCK,), "U", (BLOCK,) * 100, 100 + 1),
     # its parent, whether it is there and whether it has one
     Judged("a part", (BLOCK,), "I", (FLAT,), 3),
     Judged("a part of nothing", (), "I", (FLAT,), 3, (2, 35)),

@@ -1,12 +1,13 @@
 //! A hub over a keeper of which calls are counted, and some fail.
-ghost use Rattle.gaz_shelf.specs.Around.{seen_around};
+ghost use Rattle.gaz_faulty.specs.Around.{seen_around};
 ghost use Rattle.gaz_keeper.specs.Keeper.{IsNotOpen};
 
 use crate::playing::{answer, register_in};
 use anyhow::Result;
+use gaz_faulty::{Calls, Faulty};
 use gaz_keeper::Inbox;
 use gaz_register::Register;
-use gaz_shelf::{Calls, Faulty, MemShelf, Seed};
+use gaz_shelf::{MemShelf, Seed};
 use std::mem::forget;
 
 /// The calls of a keeper that fail, by their numbers from 1, and 0 for none.

@@ -94,9 +94,9 @@ impl<S: Alter> Tables<S> {
 
     /// Gives the row of `meta`, where it is of this register, one that the register grew to.
     ///
-    /// In this order: `OtherRegister` where the row isn't of this register, `RemovedCustodian` where
-    /// one of its custodians isn't in the grown one, `ChangedBlocks` where one has other blocks
-    /// there, `Fault` where the database failed; `Memory` may come in place of any.
+    /// In this order: `OtherRegister` where the row isn't of this register, `RemovedCustodian`
+    /// where one of its custodians isn't in the grown one, `ChangedBlocks` where one has other
+    /// blocks there, `Fault` where the database failed; `Memory` may come in place of any.
     pub fn grow(&mut self, register: &Register, grown: &Register) -> Result<(), ExtendFault>
         ensures alters { AltersTables self.old self.new (as_kept result)
             (Registers (register_text grown.now)) }

@@ -1,5 +1,5 @@
-//! A keeper's calls on the tables of a database: each asks a statement or writes in a transaction of
-//! its own, and says what it told of the tables or made of them.
+//! A keeper's calls on the tables of a database: each asks a statement or writes in a transaction
+//! of its own, and says what it told of the tables or made of them.
 #![tactic(auto)]
 
 mod applying;

@@ -62,13 +62,6 @@ impl<S: Alter> Tables<S> {
         self.alloc
     }
 
-    /// How often the store failed.
-    pub fn failures(&self) -> u64
-        ensures { result ≡ self.now.failures }
-    {
-        self.failures
-    }
-
     /// The connection, outside a transaction.
     pub fn into_connection(self) -> Connection<S>
         ensures conn { result ≡ self.conn }

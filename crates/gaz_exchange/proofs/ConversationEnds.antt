@@ -70,6 +70,7 @@ module _ (d : Door) where
         runs = c.conversation.runs;
         answers = c.conversation.answers;
         answers_ever = c.conversation.answers_ever;
+        at_door = c.conversation.at_door;
         comes_to = comes_to;
         answers_all = answers_all;
       };

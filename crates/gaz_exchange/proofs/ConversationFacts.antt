@@ -4,13 +4,14 @@ use Rattle.std.specs.Prelude.{◌⊎◌, ◌&&◌, ◌||◌, not, nat_lt, ◌==�
 use Rattle.std.specs.Io.KnownBytes.{Appends, Consumes}
 use Rattle.std.proofs.KnownBytes.{Appends-nil, Appends-trans, Consumes-nil, Consumes-trans}
 use Rattle.std.proofs.lemmas.Bool.Decides.{nat_tests}
-use Rattle.std.proofs.lemmas.List.Elements.{filter_map-append}
+use Rattle.std.proofs.lemmas.List.Elements.{All-append, All-cons, All-nil, filter_map-append}
+use Rattle.std.specs.List.{All}
 use Rattle.gaz_keeper.specs.Keeper.{Seen}
 use Rattle.gaz_hub.specs.Hubs.{Runs}
 use Rattle.gaz_hub.specs.Step.{Door}
 use Rattle.gaz_hub.proofs.HubRuns.{runs_none, runs_still, runs_then}
 use Rattle.gaz_exchange.specs.Ends.{EndsAs, EndsByReply, StopsAs, StopsWaiting, ended_after}
-use Rattle.gaz_exchange.specs.Exchanges.{Comes, Exchange, all_open, command_in, commands_of, ends_after, goes_on, replies, responses_of}
+use Rattle.gaz_exchange.specs.Exchanges.{Comes, Exchange, HearsDoor, all_open, command_in, commands_of, ends_after, goes_on, replies, responses_of}
 use Rattle.gaz_exchange.specs.Framing.{is_closing}
 use Rattle.gaz_exchange.specs.Sparing.{OneForEach, OneForEachUsed}
 use Rattle.gaz_exchange.specs.Turns.{Exchanges, IsTurn, Rests, TurnsAway, Waits}
@@ -36,6 +37,7 @@ module _ (d : Door) where
     pub comes : Comes most read exchanges inlet
     pub routes : AreFoundBy routed exchanges
     pub runs : Runs d old new (commands_of exchanges) (responses_of exchanges)
+    pub at_door : All (HearsDoor d) exchanges
     pub count : length exchanges ≡ n
     pub opens : all_open exchanges ≡ true
     pub counted : OneForEachUsed begun reads read inlet
@@ -49,6 +51,7 @@ module _ (d : Door) where
     comes = rw e (comes_none most []);
     routes = found_by_none routed;
     runs = runs_none d old;
+    at_door = All-nil (HearsDoor d);
     count = refl;
     opens = refl;
     counted = rw e (omega arith);
@@ -99,6 +102,9 @@ module _ (d : Door) where
           rw (filter_map-append command_in s.exchanges (e ∷ []), filter_map-append (λ y. y.response) s.exchanges (e ∷ []))
           (runs_then d old mid new (commands_of s.exchanges) (commands_of (e ∷ [])) (responses_of s.exchanges) (responses_of (e ∷ [])) s.runs x.runs)
 
+      all_at_door : All (HearsDoor d) (s.exchanges ++ e ∷ [])
+      all_at_door = All-append (HearsDoor d) s.exchanges (e ∷ []) s.at_door (All-cons (HearsDoor d) e [] x.at_door (All-nil (HearsDoor d)))
+
       one_more : length (s.exchanges ++ e ∷ []) ≡ n + 1
       one_more = length-append s.exchanges (e ∷ []) ∙ ap (λ k. k + 1) s.count
 
@@ -142,6 +148,7 @@ module _ (d : Door) where
           comes = all_come t.read e t.consumed x t.stay;
           routes = all_routes t.read e t.consumed x t.stay;
           runs = all_runs t.read e t.consumed x t.stay;
+          at_door = all_at_door t.read e t.consumed x t.stay;
           count = one_more t.read e t.consumed x t.stay;
           opens = (both (nat_lt (length (s.exchanges ++ e ∷ [])) most) (all_open (s.exchanges ++ e ∷ [])) others).1;
           counted = counted_used t.read counted;
@@ -170,6 +177,7 @@ module _ (d : Door) where
             runs = all_runs t.read e t.consumed x t.stay;
             answers = answers_off d old new _ _ (all_runs t.read e t.consumed x t.stay);
             answers_ever = ever_off d old new _ _ (all_runs t.read e t.consumed x t.stay);
+            at_door = all_at_door t.read e t.consumed x t.stay;
             comes_to = how;
             answers_all = ends_all most passed (n + 1) (ended_after (n + 1) most) how;
           };
@@ -201,6 +209,7 @@ module _ (d : Door) where
             runs = still_runs t.read t.consumed rests;
             answers = answers_off d old new _ _ (still_runs t.read t.consumed rests);
             answers_ever = ever_off d old new _ _ (still_runs t.read t.consumed rests);
+            at_door = s.at_door;
             comes_to = how;
             answers_all = ends_all most passed (n + 1) (ended_after (n + 1) most) how;
           };
@@ -231,6 +240,7 @@ module _ (d : Door) where
             runs = still_runs t.read t.consumed rests;
             answers = answers_off d old new _ _ (still_runs t.read t.consumed rests);
             answers_ever = ever_off d old new _ _ (still_runs t.read t.consumed rests);
+            at_door = s.at_door;
             comes_to = how;
             answers_all = ends_all most passed n ended.InputEnd how;
           };
@@ -254,6 +264,7 @@ module _ (d : Door) where
         runs = all_runs t.read e t.consumed x t.stay;
         answers = answers_off d old new _ _ (all_runs t.read e t.consumed x t.stay);
         answers_ever = ever_off d old new _ _ (all_runs t.read e t.consumed x t.stay);
+        at_door = all_at_door t.read e t.consumed x t.stay;
         comes_to = inr (inl (record { earlier = s.exchanges; in_hand = e; sent = t.written; lost = lost; split = refl; cut = cut; part = part; counted = sym s.count; told = refl }));
         answers_all = tt;
       };
@@ -277,6 +288,7 @@ module _ (d : Door) where
         runs = still_runs t.read t.consumed rests;
         answers = answers_off d old new _ _ (still_runs t.read t.consumed rests);
         answers_ever = ever_off d old new _ _ (still_runs t.read t.consumed rests);
+        at_door = s.at_door;
         comes_to = inr (inr (inl (record { open_yet = open_yet; sent = t.written; lost = lost; turned_away = away; part = part; counted = sym s.count; told = refl })));
         answers_all = tt;
       };
@@ -305,6 +317,7 @@ module _ (d : Door) where
           runs = still_runs read consumed w.1;
           answers = answers_off d old new _ _ (still_runs read consumed w.1);
           answers_ever = ever_off d old new _ _ (still_runs read consumed w.1);
+          at_door = s.at_door;
           comes_to = how;
           answers_all = tt;
         };
@@ -347,6 +360,7 @@ module _ (d : Door) where
           runs = s.runs;
           answers = answers_off d old new _ _ s.runs;
           answers_ever = ever_off d old new _ _ s.runs;
+          at_door = s.at_door;
           comes_to = how;
           answers_all = ends_all most passed most ended.Most how;
         };

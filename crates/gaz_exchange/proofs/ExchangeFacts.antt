@@ -1,10 +1,13 @@
 -- Exchanges, one after the other.
-use Rattle.std.proofs.Common.{◌≡◌, ℕ, suc, ◌-◌, ◌<◌, Bool, true, false, List, [], ◌∷◌, ◌++◌, length, refl, ap, sym, ◌∙◌, arith, append_assoc, append-nil, length-append}
+use Rattle.std.proofs.Common.{◌≡◌, ℕ, suc, ◌-◌, ◌<◌, Bool, true, false, List, [], ◌∷◌, ◌++◌, length, Some, None, Ok, refl, ap, sym, ◌∙◌, subst, arith, append_assoc, append-nil, length-append}
 use Rattle.std.specs.Prelude.{◌&&◌, ◌||◌, not, nat_lt, ◌==◌, IsTrue}
 use Rattle.std.specs.List.{list_all}
 use Rattle.std.proofs.lemmas.Bool.Decides.{nat_tests}
 use Rattle.std.proofs.lemmas.List.Folds.{list_all-append}
-use Rattle.gaz_exchange.specs.Exchanges.{BeginsWithRequest, Comes, Exchange, IsExchanged, all_open, ends_after, goes_on, replies}
+use Rattle.gaz_hub.specs.Hubs.{IsToldAtDoor}
+use Rattle.gaz_hub.specs.Step.{Command, Door, Response}
+use Rattle.gaz_exchange.specs.Asking.{asked}
+use Rattle.gaz_exchange.specs.Exchanges.{BeginsWithRequest, Comes, Exchange, HearsDoor, IsExchanged, all_open, ends_after, goes_on, replies}
 use Rattle.gaz_exchange.specs.Framing.{is_closing}
 use Rattle.gaz_exchange.proofs.IncomingFacts.{begins_more}
 
@@ -86,3 +89,16 @@ goes_on-more most es e o =
 pub replies-more : (es : List Exchange) (e : Exchange) → replies (es ++ e ∷ []) ≡ replies es ++ e.reply
 replies-more [] e = append-nil e.reply
 replies-more (x ∷ es) e = ap (λ l. x.reply ++ l) (replies-more es e) ∙ sym (append_assoc x.reply (replies es) e.reply)
+
+-- ---- at the door of the hub
+
+-- the hub was asked
+pub door_heard : (d : Door) (e : Exchange) (command : Command) (response : Response) → asked e.head e.body ≡ Ok command → e.response ≡ Some response → IsToldAtDoor d command response → HearsDoor d e
+door_heard d e command response asks says told other said asks_so says_so =
+    let same : command ≡ other = cc (asks, asks_so) in
+    let told_so : response ≡ said = cc (says, says_so) in
+    subst (λ (p : Command × Response). IsToldAtDoor d p.0 p.1) (λ i. (same i, told_so i)) told
+
+-- it wasn't
+pub door_unheard : (d : Door) (e : Exchange) → e.response ≡ None → HearsDoor d e
+door_unheard d e none command response asks says = let no : None ≡ Some response = sym none ∙ says in absurd (cc no)

@@ -27,6 +27,7 @@ use Rattle.gaz_exchange.specs.declared.reply.Reply.{Reply}
 use Rattle.gaz_exchange.specs.declared.reply.Reply.TheVariants.{Refused}
 use Rattle.gaz_exchange.specs.declared.request.Request.{Request}
 use Rattle.gaz_exchange.specs.declared.calls.Routed.{Routed}
+use Rattle.gaz_exchange.proofs.ExchangeFacts.{door_heard, door_unheard}
 use Rattle.gaz_exchange.proofs.StreamFacts.{kept_appends, kept_appends_none}
 
 -- a refusal's text takes no memory
@@ -90,7 +91,7 @@ module _ (d : Door) where
     exchange_out (Ok call) is a =
         let found = call_found h body routed call is in
         let made : Exchange = record { head = h; body = body; routed = true; response = Some a.0; reply = text } in
-        let answer : IsReplyText (reply_to a.0) (closing || is_last) text = rw a.2 at told in
+        let answer : IsReplyText (reply_to a.0) (closing || is_last) text = rw a.3 at told in
         record {
           made = made;
           of_head = refl;
@@ -101,6 +102,7 @@ module _ (d : Door) where
             ends_is = ap (λ b. b || is_last) same;
             exchanged = record { request = begins; answered = asked_answer h body (command_of body call) a.0 (closing || is_last) text found.1 answer };
             runs = rw found.1 (runs_one d old new (command_of body call) a.0 a.1);
+            at_door = door_heard d made (command_of body call) a.0 found.1 refl a.2;
           };
         }
     exchange_out (Err fault) is a =
@@ -114,6 +116,7 @@ module _ (d : Door) where
             ends_is = ap (λ b. b || is_last) same;
             exchanged = record { request = begins; answered = unasked_answer h body routed fault (closing || is_last) text is (refusal_text fault (closing || is_last) text (rw a.1 at told)) };
             runs = a.0;
+            at_door = door_unheard d (unasked_exchange h body routed text) refl;
           };
         }
 

@@ -1,25 +1,33 @@
 -- The worked examples on the requests of a stream.
-use Rattle.std.proofs.Common.{◌≡◌, ℕ, ◌<◌, true, false, List, [], ◌∷◌, ◌++◌, length, inl, inr, refl, ap, sym, ◌∙◌, arith, codes, length-append}
+use Rattle.std.proofs.Common.{◌≡◌, ℕ, ◌<◌, true, false, List, [], ◌∷◌, ◌++◌, length, Some, None, Ok, Err, inl, inr, refl, ap, sym, ◌∙◌, arith, codes, length-append}
 use Rattle.std.specs.List.{list_all}
 use Rattle.std.specs.Fmt.{digits}
 use Rattle.std.proofs.lemmas.List.Sums.{AllPass-from_list_all}
 use Rattle.std.proofs.lemmas.List.Elements.{All-cons, All-nil}
+use Rattle.std.specs.Option.{option_map}
 use Rattle.std.specs.Prelude.{All}
 use Rattle.httparse.specs.Grammar.{Field, IsField, IsRequestHead, RequestHead, is_token_byte, is_uri_byte, is_value_byte, print_request}
 use Rattle.httparse.proofs.GrammarLemmas.{request_unique}
 use Rattle.httparse.proofs.OnLiterals.{httparse_on_literals}
 use Rattle.json.proofs.Printed.Utf8.{IsUtf8-are_ascii, are_ascii}
 use Rattle.gaz_ids.specs.Numbers.{read_id}
+use Rattle.gaz_hub.specs.Hubs.{IsToldAtDoor, door_of}
+use Rattle.gaz_hub.specs.Step.{Pose, Replied}
+use Rattle.gaz_hub.specs.WorkedHubs.{upper_and_lower}
+use Rattle.gaz_hub.specs.declared.question.Question.TheVariants.{Ask}
+use Rattle.gaz_hub.specs.declared.refusal.DoorRefusal.TheVariants.{UnknownCustodian}
+use Rattle.gaz_hub.specs.declared.refusal.Refusal.TheVariants as refusal
 use Rattle.gaz_exchange.specs.Asking.{asked}
-use Rattle.gaz_exchange.specs.Exchanges.{BeginsWithRequest, Comes, Exchange, IsExchanged, RoutesStay}
+use Rattle.gaz_exchange.specs.Exchanges.{BeginsWithRequest, Comes, Exchange, HearsDoor, IsExchanged, RoutesStay}
 use Rattle.gaz_exchange.specs.Framing.{is_closing, length_of}
 use Rattle.gaz_exchange.specs.Heads.{BeginsWith}
 use Rattle.gaz_exchange.specs.Refusals.{HasHead, cut_body}
 use Rattle.gaz_exchange.specs.Replies.{message, reply_text}
 use Rattle.gaz_exchange.specs.Streams.{NoRequest}
 use Rattle.gaz_exchange.specs.Targets.{target_of}
-use Rattle.gaz_exchange.specs.WorkedStreams.{WorkedClose, WorkedCut, WorkedStreams, WorkedThree, asked_for, asking_bytes, closing, closing_bytes, cut_bytes, head, header, lost, lost_bytes, posted, posting_bytes}
+use Rattle.gaz_exchange.specs.WorkedStreams.{WorkedClose, WorkedCut, WorkedDoor, WorkedStreams, WorkedThree, asked_for, asking_bytes, closing, closing_bytes, cut_bytes, head, header, lost, lost_bytes, posted, posting_bytes, turned_away}
 use Rattle.gaz_exchange.specs.declared.framing.Framing.TheVariants.{Length}
+use Rattle.gaz_exchange.proofs.ExchangeFacts.{door_heard, door_unheard}
 use Rattle.gaz_exchange.proofs.StreamLaws.{one_request}
 
 -- a head of these parts is one
@@ -206,5 +214,44 @@ on_close = record {
   never_open = open_for_close;
 }
 
+-- ---- at the door
+
+asks_volume : asked asked_for.head asked_for.body ≡ Ok (Pose (Ask 1001 2))
+unfolding asked target_of read_id httparse_on_literals
+asks_volume = refl
+
+told_known : IsToldAtDoor (door_of upper_and_lower) (Pose (Ask 1001 2)) (Replied (Ask 1001 2) (Ok None))
+told_known = record {
+  early = λ why e. let no : None ≡ Some why = e in absurd (cc no);
+  late = λ why e. let no : None ≡ Some why = e in absurd (cc no);
+  only = λ why e. let no : None ≡ Some (refusal.Door why) = e in absurd (cc no);
+}
+
+told_unknown : IsToldAtDoor (door_of []) (Pose (Ask 1001 2)) (Replied (Ask 1001 2) (Err (refusal.Door UnknownCustodian)))
+told_unknown = record {
+  early = λ why e. ap (option_map refusal.Door) e;
+  late = λ why e. inl (ap (option_map refusal.Door) e);
+  only = λ why e. let same : UnknownCustodian ≡ why = cc e in ap Some same;
+}
+
+known_let_in : HearsDoor (door_of []) asked_for → ⊥
+known_let_in h =
+    let told = h (Pose (Ask 1001 2)) (Replied (Ask 1001 2) (Ok None)) asks_volume refl in
+    let no : None ≡ Some (refusal.Door UnknownCustodian) = told.early UnknownCustodian refl in absurd (cc no)
+
+known_refused : HearsDoor (door_of upper_and_lower) turned_away → ⊥
+known_refused h =
+    let told = h (Pose (Ask 1001 2)) (Replied (Ask 1001 2) (Err (refusal.Door UnknownCustodian))) asks_volume refl in
+    let no : None ≡ Some UnknownCustodian = told.only UnknownCustodian refl in absurd (cc no)
+
+on_door : WorkedDoor
+on_door = record {
+  let_in = door_heard (door_of upper_and_lower) asked_for (Pose (Ask 1001 2)) (Replied (Ask 1001 2) (Ok None)) asks_volume refl told_known;
+  refused = door_heard (door_of []) turned_away (Pose (Ask 1001 2)) (Replied (Ask 1001 2) (Err (refusal.Door UnknownCustodian))) asks_volume refl told_unknown;
+  never_let_in = known_let_in;
+  never_refused = known_refused;
+  unasked = λ door. door_unheard door lost refl;
+}
+
 pub worked_streams_hold : WorkedStreams
-worked_streams_hold = record { on_three = on_three; on_cut = on_cut; on_close = on_close }
+worked_streams_hold = record { on_three = on_three; on_cut = on_cut; on_close = on_close; on_door = on_door }

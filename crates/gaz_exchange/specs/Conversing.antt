@@ -1,6 +1,7 @@
 -- A conversation: the requests of a stream, answered in turn.
 use Rattle.std.specs.Prelude.{◌≡◌, ℕ, ◌<◌, ◌⊎◌, false, List}
 use Rattle.std.specs.Prelude.{length, Option, Result, Ok, Err, IfErr, IsErrAnd, IsOk}
+use Rattle.std.specs.List.{All}
 use Rattle.std.specs.Io.KnownBytes.{Appends, Consumes, IsAtEnd}
 use Rattle.gaz_keeper.specs.Keeper.{Seen}
 use Rattle.gaz_keeper.specs.Received.{Received}
@@ -8,8 +9,8 @@ use Rattle.gaz_hub.specs.Answers.{AllAnswered}
 use Rattle.gaz_hub.specs.Hubs.{Runs, StandsFor}
 use Rattle.gaz_hub.specs.Step.{Command, Door, Response}
 use Rattle.gaz_exchange.specs.Ends.{AnswersAll, ComesTo}
-use Rattle.gaz_exchange.specs.Exchanges.{Exchange, Comes, RoutesStay, goes_on, commands_of}
-use Rattle.gaz_exchange.specs.Exchanges.{responses_of}
+use Rattle.gaz_exchange.specs.Exchanges.{Exchange, Comes, HearsDoor, RoutesStay, goes_on}
+use Rattle.gaz_exchange.specs.Exchanges.{commands_of, responses_of}
 use Rattle.gaz_exchange.specs.Failing.{HasFailed, NeverFails}
 use Rattle.gaz_exchange.specs.Sparing.{OneForEach, OneForEachUsed}
 use Rattle.gaz_exchange.specs.declared.supply.Cause.TheVariants.{ReadFault}
@@ -62,6 +63,8 @@ pub record Conversation (door : Door) (most : ℕ) (through : Transfer) (old new
   -- so it is of the files of some hub, whatever a failure shut by then
   pub answers_ever : StandsFor door old → new.trusted →
       SomeAnswered door old.content.files (commands_of exchanges) (responses_of exchanges)
+  -- whatever has become of the keeper, each request is told what the door says of it
+  pub at_door : All (HearsDoor door) exchanges
   pub comes_to : ComesTo most
       (record { exchanges = exchanges; rest = rest; left = through.left; written = written }) result
   pub answers_all : AnswersAll most

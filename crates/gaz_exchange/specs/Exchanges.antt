@@ -6,7 +6,8 @@ use Rattle.std.specs.Option.{option_and_then}
 use Rattle.std.specs.List.{flat_map, filter_map, list_all}
 use Rattle.std.specs.Result.{result_ok}
 use Rattle.httparse.specs.Grammar.{RequestHead}
-use Rattle.gaz_hub.specs.Step.{Command, Response}
+use Rattle.gaz_hub.specs.Hubs.{IsToldAtDoor}
+use Rattle.gaz_hub.specs.Step.{Command, Door, Response}
 use Rattle.gaz_exchange.specs.Asking.{asked}
 use Rattle.gaz_exchange.specs.Framing.{length_of, is_closing}
 use Rattle.gaz_exchange.specs.Heads.{BeginsWith}
@@ -55,6 +56,12 @@ pub record IsExchanged (bytes : List ℕ) (e : Exchange) (rest : List ℕ) (is_l
     : Type 0 where
   pub request : BeginsWithRequest bytes e.head e.body rest
   pub answered : IsAnswered e.routed e is_last
+
+-- what the hub said to the request, where it was asked, is what is told at its door
+abbrev pub HearsDoor : Door → Exchange → Type 0
+HearsDoor door e =
+    (command : Command) (response : Response) → asked e.head e.body ≡ Ok command
+    → e.response ≡ Some response → IsToldAtDoor door command response
 
 -- the conversation ends after this exchange, the first of at most so many
 abbrev pub ends_after : ℕ → Exchange → Bool

@@ -3,11 +3,12 @@ use Rattle.std.specs.Prelude.{◌≡◌, ◌≢◌, ◌⊎◌, ◌||◌, ⊤, �
 use Rattle.std.specs.Prelude.{Option, Result, Ok, Err}
 use Rattle.std.specs.Io.KnownBytes.{Appends, Consumes, IsAtEnd}
 use Rattle.gaz_keeper.specs.Keeper.{Seen}
-use Rattle.gaz_hub.specs.Hubs.{Runs, Steps}
+use Rattle.gaz_hub.specs.Hubs.{IsToldAtDoor, Runs, Steps}
 use Rattle.gaz_hub.specs.Step.{Door, Response}
 use Rattle.gaz_exchange.specs.Asking.{command_of}
 use Rattle.gaz_exchange.specs.Conversing.{Transfer}
-use Rattle.gaz_exchange.specs.Exchanges.{Exchange, IsExchanged, commands_of, responses_of}
+use Rattle.gaz_exchange.specs.Exchanges.{Exchange, HearsDoor, IsExchanged, commands_of}
+use Rattle.gaz_exchange.specs.Exchanges.{responses_of}
 use Rattle.gaz_exchange.specs.Framing.{is_closing}
 use Rattle.gaz_exchange.specs.Heads.{IsOver}
 use Rattle.gaz_exchange.specs.Refusals.{IsTurnedAway, IsUnfinished}
@@ -34,7 +35,7 @@ Rests door old new = Runs door old new [] []
 abbrev pub Asks : Door → Result Routed Fault → List ℕ → Seen → Seen → Reply → Type 0
 Asks door (Ok call) body old new reply =
     (response : Response) × Steps door old new (command_of body call) response
-    × (reply ≡ reply_to response)
+    × IsToldAtDoor door (command_of body call) response × (reply ≡ reply_to response)
 Asks door (Err fault) body old new reply = Rests door old new × (reply ≡ Refused fault)
 
 -- the hub is asked by a request
@@ -77,6 +78,7 @@ pub record Exchanges (door : Door) (is_last routed : Bool) (bytes : List ℕ) (e
   pub ends_is : ends ≡ (is_closing e.head || is_last)
   pub exchanged : IsExchanged bytes e rest ends
   pub runs : Runs door old new (commands_of (e ∷ [])) (responses_of (e ∷ []))
+  pub at_door : HearsDoor door e
 
 -- Below, before and after count the reads.
 

@@ -1,13 +1,17 @@
 -- Worked examples on the requests of a stream.
 use Rattle.std.specs.Prelude.{◌≡◌, ℕ, true, false, List, [], ◌∷◌, ◌++◌, codes, Some, None}
-use Rattle.std.specs.Prelude.{Ok}
+use Rattle.std.specs.Prelude.{Ok, Err}
 use Rattle.httparse.specs.Grammar.{Field, RequestHead, crlf}
-use Rattle.gaz_hub.specs.Step.{Pose, Replied, Submit, Submitted}
+use Rattle.gaz_hub.specs.Hubs.{door_of}
+use Rattle.gaz_hub.specs.Step.{Door, Pose, Replied, Submit, Submitted}
+use Rattle.gaz_hub.specs.WorkedHubs.{upper_and_lower}
 use Rattle.gaz_hub.specs.declared.answer.Answer.TheVariants.{New}
 use Rattle.gaz_hub.specs.declared.outcome.Outcome.TheVariants.{Rejected}
 use Rattle.gaz_hub.specs.declared.question.Question.TheVariants.{Ask}
-use Rattle.gaz_exchange.specs.Exchanges.{Comes, Exchange, RoutesStay, commands_of, goes_on, replies}
-use Rattle.gaz_exchange.specs.Exchanges.{responses_of}
+use Rattle.gaz_hub.specs.declared.refusal.DoorRefusal.TheVariants.{UnknownCustodian}
+use Rattle.gaz_hub.specs.declared.refusal.Refusal.TheVariants as refusal
+use Rattle.gaz_exchange.specs.Exchanges.{Comes, Exchange, HearsDoor, RoutesStay, commands_of}
+use Rattle.gaz_exchange.specs.Exchanges.{goes_on, replies, responses_of}
 use Rattle.gaz_exchange.specs.Refusals.{IsRefused, IsUnfinished}
 use Rattle.gaz_exchange.specs.Streams.{NoRequest}
 use Rattle.gaz_exchange.specs.declared.fault.Fault.TheVariants.{BadRequest}
@@ -126,7 +130,26 @@ pub record WorkedClose : Type 0 where
       → Comes 4 (closing_bytes ++ posting_bytes) (e ∷ f ∷ []) rest → ⊥
   pub never_open : Comes 4 (closing_bytes ++ posting_bytes) (lost ∷ []) posting_bytes → ⊥
 
+-- the volume is asked for of a hub that doesn't know the custodian
+abbrev pub turned_away : Exchange
+turned_away = record asked_for {
+  response = Some (Replied (Ask 1001 2) (Err (refusal.Door UnknownCustodian)));
+  reply =
+      codes "HTTP/1.1 404 Not Found\r\nContent-Type: application/json\r\n"
+      ++ codes "Content-Length: 15\r\n\r\n{\"refusal\":11}\n";
+}
+
+-- what is told at the door of a hub that knows the custodian, and of one that knows nobody
+pub record WorkedDoor : Type 0 where
+  pub let_in : HearsDoor (door_of upper_and_lower) asked_for
+  pub refused : HearsDoor (door_of []) turned_away
+  pub never_let_in : HearsDoor (door_of []) asked_for → ⊥
+  pub never_refused : HearsDoor (door_of upper_and_lower) turned_away → ⊥
+  -- where the hub isn't asked, no door is heard
+  pub unasked : (door : Door) → HearsDoor door lost
+
 pub record WorkedStreams : Type 0 where
   pub on_three : WorkedThree
   pub on_cut : WorkedCut
   pub on_close : WorkedClose
+  pub on_door : WorkedDoor

@@ -216,7 +216,8 @@ fn take_turns<R: Source, W: Sink, K: Inbox + Drop>(
 /// ends, no other request may follow those that were answered, or none stands whole in what was
 /// read behind them, unless there was no memory for the body of the next. The hub's answers are a
 /// run of its steps where the keeper stood before for a content that the hub may have and what the
-/// hub remembered of it was right, and nobody else wrote on it nor did a failure shut it.
+/// hub remembered of it was right, and nobody else wrote on it nor did a failure shut it. Whom the
+/// hub's door refuses is told so whatever has become of the keeper.
 ///
 /// It stops only where the reader or the writer failed. A reader whose reads are counted is read at
 /// most once for each byte, and once more, which finds the end or fails; where no request may

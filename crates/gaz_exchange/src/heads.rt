@@ -13,7 +13,10 @@ use httparse::Status;
 use httparse::spans::{HeaderSpan, RequestSpans, parse_request};
 
 /// The bytes that a head may have, with the empty lines before it.
-const HEAD_LIMIT: usize = 8192;
+pub const HEAD_LIMIT: usize = 8192;
+
+/// The header fields that a head may have.
+pub const MOST_HEADERS: usize = 32;
 
 /// What comes next on a stream.
 #[derive(Drop)]
@@ -54,7 +57,7 @@ fn blank(bytes: &[u8]) -> bool
 //
 // > request-line   = method SP request-target SP HTTP-version
 // > field-line   = field-name ":" OWS field-value OWS
-fn parse_head(bytes: &[u8], headers: &mut [HeaderSpan; 32]) -> Look
+fn parse_head(bytes: &[u8], headers: &mut [HeaderSpan; MOST_HEADERS]) -> Look
     ensures { IsLook bytes.now headers.new result }
 {
     match parse_request(bytes, headers) {
@@ -79,7 +82,7 @@ pub fn next_head<R: Source, W: Sink>(
     r: &mut R,
     w: &mut W,
     inlet: &mut Inlet,
-    headers: &mut [HeaderSpan; 32],
+    headers: &mut [HeaderSpan; MOST_HEADERS],
 ) -> Next
     ensures read { Supplies R.remaining r.old r.new inlet.old inlet.new
         (λ _ left. IsNext inlet.new left headers.new result) }

@@ -3,12 +3,13 @@ ghost use Rattle.std.specs.Prelude.{MatchResult, OnErr};
 ghost use Rattle.std.specs.Io.KnownBytes.{Consumes, IsAtEnd, Keeps};
 ghost use Rattle.gaz_exchange.specs.Heads.{inlet_size};
 
+use crate::heads::HEAD_LIMIT;
 use crate::source::Source;
 use std::io;
 use std::marker::Model;
 
 /// The bytes that a head may have, and one more, which shows that it has too many.
-pub const INLET_SIZE: usize = 8193;
+pub const INLET_SIZE: usize = HEAD_LIMIT + 1;
 
 /// Bytes that were read and not yet used, at most 8,193 of them.
 #[derive(Drop)]

@@ -13,7 +13,7 @@ use crate::calls::{Method, Routed};
 use crate::fault::Fault;
 use crate::framing::{Framing, find_framing, is_post};
 use crate::headers::closes;
-use crate::heads::{Next, next_head};
+use crate::heads::{MOST_HEADERS, Next, next_head};
 use crate::inlet::Inlet;
 use crate::route::Routes;
 use crate::sink::Sink;
@@ -57,7 +57,7 @@ pub struct Needed {
 #[derive(Drop)]
 pub struct Intake {
     pub inlet: Inlet,
-    pub headers: [HeaderSpan; 32],
+    pub headers: [HeaderSpan; MOST_HEADERS],
     pub routes: Routes,
     /// The room of an earlier body.
     pub room: Vec<u8>,
@@ -71,7 +71,7 @@ impl Intake {
     {
         Intake {
             inlet: Inlet::new(),
-            headers: [EMPTY_HEADER_SPAN; 32],
+            headers: [EMPTY_HEADER_SPAN; MOST_HEADERS],
             routes: Routes::new(),
             room: Vec::new(alloc),
         }
@@ -83,7 +83,7 @@ fn needed_of(
     alloc: Global,
     bytes: &[u8],
     spans: RequestSpans,
-    headers: &[HeaderSpan; 32],
+    headers: &[HeaderSpan; MOST_HEADERS],
     routes: &mut Routes,
 ) -> Needed
     requires { IsHeadAt bytes.now headers.now spans }

@@ -89,17 +89,21 @@ module _ {T : Type 0} (d : Door) (q : Question) (say : T → Told q) (reply : Re
   door_read old new (Ok x) =
       subst (λ k. MeetsDoor d old new (Pose q) (Replied q k)) (sym (says.ok x))
       (record {
-        early = λ r e. let no : Some r ≡ None = sym e ∙ let_in in cc;
-        late = λ r e. let no : Some r ≡ None = sym e ∙ let_in in absurd (true≢false (ap is_some no));
-        only = λ why e. let no : None ≡ Some (refusal.Door why) = e in cc;
+        at_door = record {
+          early = λ r e. let no : Some r ≡ None = sym e ∙ let_in in cc;
+          late = λ r e. let no : Some r ≡ None = sym e ∙ let_in in absurd (true≢false (ap is_some no));
+          only = λ why e. let no : None ≡ Some (refusal.Door why) = e in cc;
+        };
         unasked = λ h. absurd (true≢false (sym h ∙ ap is_some let_in));
       })
   door_read old new (Err fault) =
       subst (λ k. MeetsDoor d old new (Pose q) (Replied q k)) (sym (says.err (refusal.NotReceived fault)))
       (record {
-        early = λ r e. let no : Some r ≡ None = sym e ∙ let_in in cc;
-        late = λ r e. let no : Some r ≡ None = sym e ∙ let_in in absurd (true≢false (ap is_some no));
-        only = λ why e. let no : Some (refusal.NotReceived fault) ≡ Some (refusal.Door why) = e in cc;
+        at_door = record {
+          early = λ r e. let no : Some r ≡ None = sym e ∙ let_in in cc;
+          late = λ r e. let no : Some r ≡ None = sym e ∙ let_in in absurd (true≢false (ap is_some no));
+          only = λ why e. let no : Some (refusal.NotReceived fault) ≡ Some (refusal.Door why) = e in cc;
+        };
         unasked = λ h. absurd (true≢false (sym h ∙ ap is_some let_in));
       })
 

@@ -6,12 +6,13 @@ use Rattle.gaz_keeper.specs.Board.{Board, reached}
 use Rattle.gaz_keeper.specs.Keeper.{Content, Seen}
 use Rattle.gaz_keeper.specs.Received.{Received}
 use Rattle.gaz_keeper.specs.declared.fault.ShelfFault.{ShelfFault}
+use Rattle.gaz_waiters.specs.Remembered.{Remembered, is_among}
 use Rattle.gaz_hub.specs.Hubs.{AreKnown, door_of}
 use Rattle.gaz_hub.specs.Settling.{Advances, Tells, Tries}
 use Rattle.gaz_hub.specs.Standing.{NothingReady, ready}
 use Rattle.gaz_hub.specs.Step.{Door, HubState}
 use Rattle.gaz_hub.specs.Stops.{Stops}
-use Rattle.gaz_hub.specs.Waiting.{Remembered, RestAfter, is_among, remembering}
+use Rattle.gaz_hub.specs.Waiting.{RestAfter, remembering}
 use Rattle.gaz_hub.proofs.Bounds.{all_then}
 use Rattle.gaz_hub.proofs.Orders.{ready_gives}
 use Rattle.gaz_hub.proofs.Advancing.{advances_less, advances_then}

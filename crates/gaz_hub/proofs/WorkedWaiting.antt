@@ -7,8 +7,8 @@ use Rattle.gaz_keeper.proofs.Pairs.{pairs_total}
 use Rattle.gaz_keeper.specs.Board.{empty_board}
 use Rattle.gaz_keeper.specs.Keeper.{empty_content}
 use Rattle.gaz_keeper.specs.Received.{pair_cmp}
+use Rattle.gaz_waiters.specs.Remembered.{is_among, known_in, waiting_for, with_waiter}
 use Rattle.gaz_hub.specs.Outcomes.{wants}
-use Rattle.gaz_hub.specs.Waiting.{is_among, known_in, waiting_for, with_waiter}
 use Rattle.gaz_hub.specs.WorkedHubs.{upper_and_lower}
 use Rattle.gaz_hub.specs.WorkedWaiting.{WorkedWaiting, nobody, two_wait, waits_for_itself}
 use Rattle.gaz_hub.proofs.Examples.{closed_sent}

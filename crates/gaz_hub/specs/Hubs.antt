@@ -111,9 +111,8 @@ abbrev pub or_not_received : {T : Type 0} → Result T ShelfFault → Result T R
 or_not_received (Ok x) = Ok x
 or_not_received (Err fault) = Err (refusal.NotReceived fault)
 
--- a call at the door, of a keeper that was so before and is so after, whatever it stands for
-pub record MeetsDoor {K : Type 0} (door : Door) (old new : K) (command : Command)
-    (response : Response) : Type 0 where
+-- what is told of a command at the door, whatever the keeper stands for
+pub record IsToldAtDoor (door : Door) (command : Command) (response : Response) : Type 0 where
   -- a refusal that takes no memory is told
   pub early : (why : DoorRefusal) → early_refusal door command ≡ Some why
       → refusal_of response ≡ Some (refusal.Door why)
@@ -124,7 +123,12 @@ pub record MeetsDoor {K : Type 0} (door : Door) (old new : K) (command : Command
   -- no other is told
   pub only : (why : DoorRefusal) → refusal_of response ≡ Some (refusal.Door why)
       → refusal_at_door door command ≡ Some why
-  -- nor is the keeper called where the door refuses
+
+-- a call at the door, of a keeper that was so before and is so after, whatever it stands for
+pub record MeetsDoor {K : Type 0} (door : Door) (old new : K) (command : Command)
+    (response : Response) : Type 0 where
+  pub at_door : IsToldAtDoor door command response
+  -- the keeper isn't called where the door refuses
   pub unasked : IsSome (refusal_at_door door command) → new ≡ old
 
 -- some hub to which this response may lead

@@ -4,8 +4,8 @@ use denote.Ref.{MutBor}
 use Rattle.std.specs.Fn.{Once}
 use Rattle.gaz_keeper.specs.Keeper.{IsNotOpen, Seen}
 use Rattle.gaz_keeper.specs.declared.fault.ShelfFault.{ShelfFault}
+use Rattle.gaz_waiters.specs.Remembered.{Remembered, known_in}
 use Rattle.gaz_hub.specs.Seen.{CallsKeeper}
-use Rattle.gaz_hub.specs.Waiting.{Remembered, known_in}
 
 -- a call of a keeper of type K, and of what is known, that tells a T
 abbrev pub Reading : Type 0 → Type 0 → Type 0 → Type 1

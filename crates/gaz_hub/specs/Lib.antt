@@ -19,7 +19,6 @@ pub mod Settling
 pub mod Telling
 pub mod Posing
 pub mod Waiting
-pub mod WaitingCode
 pub mod Seen
 pub mod Knowing
 pub mod Asked

@@ -6,9 +6,10 @@ use Rattle.gaz_register.specs.Registers.{RegisterValue}
 use Rattle.gaz_keeper.specs.Keeper.{Seen}
 use Rattle.gaz_keeper.specs.declared.fault.ShelfFault.{ShelfFault}
 use Rattle.gaz_keeper.specs.declared.fault.ShelfFault.TheVariants.{Store}
+use Rattle.gaz_waiters.specs.Remembered.{Remembered, with_coming}
 use Rattle.gaz_hub.specs.Hubs.{cause_in_answer, door_of}
 use Rattle.gaz_hub.specs.Step.{file_refusal, question_refusal}
-use Rattle.gaz_hub.specs.Waiting.{Remembered, remembering, with_coming}
+use Rattle.gaz_hub.specs.Waiting.{remembering}
 use Rattle.gaz_hub.specs.declared.answer.Answer.{Answer}
 use Rattle.gaz_hub.specs.declared.hub.Hub.{Hub}
 use Rattle.gaz_hub.specs.declared.question.Question.{Question}

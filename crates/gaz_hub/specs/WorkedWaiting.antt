@@ -2,10 +2,11 @@
 use Rattle.std.specs.Prelude.{◌≡◌, true, false, [], ◌∷◌, None, Some}
 use Rattle.std.specs.FinMap as map
 use Rattle.gaz_keeper.specs.Keeper.{Content, empty_content}
+use Rattle.gaz_waiters.specs.Remembered.{Remembered, all_ahead, is_among, known_in, waiting_for}
+use Rattle.gaz_waiters.specs.Remembered.{wanted_by, with_coming, with_judged, with_nothing_wanted}
+use Rattle.gaz_waiters.specs.Remembered.{with_waiter}
 use Rattle.gaz_hub.specs.Examples.{one_judged, sent}
-use Rattle.gaz_hub.specs.Waiting.{IsRight, IsSo, Remembered, Rests, all_ahead, is_among, known_in}
-use Rattle.gaz_hub.specs.Waiting.{waiting_for, wanted_by, with_coming, with_judged}
-use Rattle.gaz_hub.specs.Waiting.{with_nothing_wanted, with_waiter}
+use Rattle.gaz_hub.specs.Waiting.{IsRight, IsSo, Rests}
 use Rattle.gaz_hub.specs.WorkedHubs.{upper_and_lower}
 
 -- nobody is to be looked at, and nobody waits

@@ -7,9 +7,9 @@ ghost use Rattle.gaz_hub.specs.Telling.{RepliesTo};
 ghost use Rattle.gaz_hub.specs.declared.question.Question.TheVariants.{Settle};
 
 use crate::remembering::settled;
-use crate::waiters::Waiters;
 use gaz_keeper::{Inbox, ShelfFault};
 use gaz_register::Register;
+use gaz_waiters::Waiters;
 use std::alloc::Global;
 
 /// A hub of the custodians of a register, which keeps files and board in a keeper.

@@ -20,7 +20,6 @@ mod reply;
 mod settling;
 mod standing;
 mod submitting;
-mod waiters;
 pub mod worked;
 
 pub use answer::{Answer, Digest};

@@ -29,6 +29,7 @@ impl<K: Inbox + Drop> Hub<K> {
         ensures register { self.new.register ≡ self.old.register }
     {
         let (alloc, register) = (self.alloc, &self.register);
+        // Each number is allotted to one custodian at most.
         let _custodians = register.custodians();
         let read = |keeper: &mut K| ask_holder(alloc, register, keeper, uprn);
         answered(alloc, register, &mut self.keeper, &mut self.waiters, read)

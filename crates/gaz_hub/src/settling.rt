@@ -6,11 +6,11 @@ ghost use Rattle.gaz_hub.specs.Waiting.{RestAfter, remembering};
 ghost use Rattle.gaz_keeper.specs.Telling.{IsNotJudging};
 
 use crate::looking::{Next, look};
-use crate::waiters::Waiters;
 use gaz_ids::{Code, LAST_VOLUME};
 use gaz_keeper::{Inbox, ShelfFault};
 use gaz_register::Register;
 use gaz_rules::judge;
+use gaz_waiters::Waiters;
 use std::alloc::Global;
 
 // Whether one more may be judged. No lawful content asks past the last.

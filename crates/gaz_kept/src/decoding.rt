@@ -81,7 +81,7 @@ pub fn key_in(kind: Kind, row: &Row, at: usize) -> Result<Key, RowFault>
 }
 
 /// Whether two keys are one.
-pub fn are_one(a: &Key, b: &Key) -> bool
+pub(crate) fn are_one(a: &Key, b: &Key) -> bool
     ensures { result ≡ true → a.now ≡ b.now }
 {
     a.compare(b).is_eq()

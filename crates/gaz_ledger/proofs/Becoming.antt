@@ -1,6 +1,6 @@
 -- What became of numbers, and the views of a gazetteer with it.
 use Rattle.std.proofs.Common.{◌≡◌, ◌≤◌, ◌<◌, ◌+◌, ℕ, Bool, true, false, cond, List, [], ◌∷◌, ◌++◌, refl, sym, ap, subst, ◌∙◌, arith, unwrap_or, eqb-true}
-use Rattle.std.specs.Prelude.{◌==◌, Option, Some}
+use Rattle.std.specs.Prelude.{◌==◌, Option, Some, None}
 use Rattle.std.proofs.lemmas.List.Elements.{All-nil, All-weaker}
 use Rattle.std.specs.Cmp.{eq_by_cmp_equiv, nat_cmp_total, unsigned_tied}
 use Rattle.std.specs.FinMap as finite
@@ -78,6 +78,15 @@ becomes c es fs k vs ws is h same n =
     passed_stored (finite.from_entries fs) fs n refl ∙ ap (λ o. unwrap_or o []) (h n) ∙ of_cond (k == n) ∙ (λ i. cond (k == n) (same i) (sym (passed_stored c es n is) i))
   where
     of_cond : (b : Bool) → unwrap_or (cond b (Some vs) (stored es n)) [] ≡ cond b vs (unwrap_or (stored es n) [])
+    of_cond true = refl
+    of_cond false = refl
+
+-- nothing is left of it, and it is taken out
+pub becomes_none : (c : Custodies) (es ms fs : Rows) (k : ℕ) (vs ws : Versions Custody) → finite.from_entries es ≡ c → Writes es ms k (Some vs) → Writes ms fs k None → [] ≡ ws → BecomesAt c (finite.from_entries fs) k ws
+becomes_none c es ms fs k vs ws is first second none n =
+    passed_stored (finite.from_entries fs) fs n refl ∙ ap (λ o. unwrap_or o []) (second n ∙ ap (cond (k == n) None) (first n)) ∙ of_cond (k == n) ∙ (λ i. cond (k == n) (none i) (sym (passed_stored c es n is) i))
+  where
+    of_cond : (b : Bool) → unwrap_or (cond b None (cond b (Some vs) (stored es n))) [] ≡ cond b [] (unwrap_or (stored es n) [])
     of_cond true = refl
     of_cond false = refl
 

@@ -11,7 +11,7 @@ use Rattle.std.specs.List.Sorted.{IsStrictlySortedBy}
 use Rattle.std.specs.Map.{keys_of, lookup}
 use Rattle.std.specs.Ordering.{eq_by_cmp}
 use Rattle.std.specs.declared.cmp.Ordering.TheVariants.{Less}
-use Rattle.gaz_histories.specs.Histories.{before, is_empty, standing_at}
+use Rattle.gaz_histories.specs.Histories.{Versions, before, is_empty, standing_at}
 use Rattle.gaz_records.proofs.KeyOrder.{keys_exact, keys_total}
 use Rattle.gaz_records.specs.Keys.{key_cmp}
 use Rattle.gaz_records.specs.declared.item.Item.{Item}
@@ -85,7 +85,7 @@ module _ (g : KeyHistories) (es : Rows) (key : Key) (is : finite.from_entries es
   pub stores_again : (fs hs : Rows) (vs ws : ItemVersions) → fs ≡ hs → Writes es hs key (Some vs) → vs ≡ ws → stored es key ≡ Some ws → finite.from_entries fs ≡ g
   stores_again fs hs vs ws new h same there = ap (λ (l : Rows). finite.from_entries l) new ∙ stores_same g es hs key vs is h (ap Some same ∙ sym there)
 
-pub nothing_in : (vs : ItemVersions) → true ≡ is_empty vs → vs ≡ []
+pub nothing_in : {T : Type 0} (vs : Versions T) → true ≡ is_empty vs → vs ≡ []
 nothing_in [] e = refl
 nothing_in (v ∷ vs) e = cc
 

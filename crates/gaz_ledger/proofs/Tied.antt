@@ -1,11 +1,11 @@
 -- Keys under the BLPU that their items name, and what goes on being found under it.
-use Rattle.std.proofs.Common.{◌≡◌, ◌⊎◌, ◌≤◌, ◌<◌, ◌+◌, ◌||◌, ℕ, Bool, true, false, cond, List, [], ◌∷◌, ◌++◌, refl, sym, ap, subst, ◌∙◌, arith, eqb-true, eq-eqb, inl, inr}
-use Rattle.std.specs.Prelude.{◌==◌, Option, Some, None, is_some}
+use Rattle.std.proofs.Common.{◌≡◌, ◌⊎◌, ◌≤◌, ◌<◌, ◌+◌, ◌||◌, ◌&&◌, ℕ, Bool, true, false, cond, List, [], ◌∷◌, ◌++◌, refl, sym, ap, subst, ◌∙◌, arith, eqb-true, eq-eqb, inl, inr}
+use Rattle.std.specs.Prelude.{◌==◌, Option, Some, None, is_some, unwrap_or}
 use Rattle.std.proofs.lemmas.Bool.{cases_lt}
 use Rattle.std.specs.Cmp.{eq_by_cmp_equiv}
 use Rattle.std.specs.FinMap as finite
 use Rattle.std.specs.FinMap.{find}
-use Rattle.std.specs.Global.{Vec}
+use Rattle.std.specs.HashSet.{HashSet}
 use Rattle.std.specs.List.{list_any}
 use Rattle.std.specs.Map.{lookup}
 use Rattle.std.specs.Option.{option_and_then, option_map_or}
@@ -21,7 +21,6 @@ use Rattle.gaz_views.specs.View.{View}
 use Rattle.gaz_views.specs.Words.{entries, names, tied}
 use Rattle.gaz_ledger.proofs.Judgements.{IsWithin, later_view}
 use Rattle.gaz_ledger.proofs.KeyHistories.{alike_at, get_at, item_now, row_at, settled_view, view_ascends}
-use Rattle.gaz_ledger.proofs.KeyOrders.{noted}
 use Rattle.gaz_ledger.proofs.Stored.{was_nowhere}
 use Rattle.gaz_ledger.proofs.Passing.{Row, has, held, is_cons, passing, some_keys, some_kept}
 use Rattle.gaz_ledger.proofs.Versions.{item_set, last, until_set}
@@ -30,28 +29,52 @@ use Rattle.gaz_ledger.specs.Indexes.{has_key}
 use Rattle.gaz_ledger.specs.Ledgers.{IsLedger}
 use Rattle.gaz_ledger.specs.declared.index.Index.{Index}
 use Rattle.gaz_ledger.specs.KeyHistories.{HasTheKeysOf, ItemVersions, KeyHistories, versions_at, view_at}
-use Rattle.gaz_ledger.specs.Ties.{AddsTie, AreTies, FindsTies, IsTiedTo, KeepsTies, NotesTie, is_tied, keys_tied, may_tie, named_at, named_by, names_at}
+use Rattle.gaz_ledger.specs.Ties.{AddsTie, AreTies, FindsTies, IsTiedTo, KeepsTies, NotesTie, is_tie, is_tied, keys_tied, may_tie, named_at, named_by, names_at}
+use Rattle.gaz_ledger.specs.declared.seed.Seed.{Seed}
 use Rattle.gaz_ledger.specs.declared.tied_keys.TiedKeys.{TiedKeys}
 use Rattle.gaz_ledger.specs.declared.ties.Ties.{Ties}
 
 -- ---- a key added under a BLPU
 
-abbrev Sets : Type 0
-Sets = List (ℕ × Vec Key)
+abbrev pub Keys : Type 0
+Keys = HashSet Key Seed
 
-abbrev stored : Sets → ℕ → Option (Vec Key)
+abbrev pub Sets : Type 0
+Sets = List (ℕ × Keys)
+
+abbrev stored : Sets → ℕ → Option Keys
 stored es n = lookup (λ m. n == m) es
 
-abbrev pub items_of : Option (Vec Key) → List Key
-items_of o = option_map_or (λ ks. ks.items) o []
+abbrev pub items_of : Option Keys → List Key
+items_of o = option_map_or (λ ks. ks.keys) o []
 
-pub added : (es fs : Sets) (uprn : ℕ) (vs : Vec Key) (key : Key) → ((q : ℕ) → stored fs q ≡ cond (uprn == q) (Some vs) (stored es q)) → vs.items ≡ items_of (stored es uprn) ++ key ∷ []
-    → (n : ℕ) → items_of (stored fs n) ≡ cond (uprn == n) (items_of (stored es n) ++ key ∷ []) (items_of (stored es n))
-added es fs uprn vs key h is n = ap items_of (h n) ∙ by_test (uprn == n) refl
-  where
-    by_test : (b : Bool) → (uprn == n) ≡ b → items_of (cond b (Some vs) (stored es n)) ≡ cond b (items_of (stored es n) ++ key ∷ []) (items_of (stored es n))
-    by_test true at = is ∙ ap (λ m. items_of (stored es m) ++ key ∷ []) (eqb-true uprn n at)
-    by_test false at = refl
+abbrev pub among : Sets → ℕ → Key → Bool
+among es n k = has_key (items_of (stored es n)) k
+
+or_cond : (a b : Bool) → cond a true b ≡ (a || b)
+or_cond true b = refl
+or_cond false b = refl
+
+-- it is added to those that are kept under its BLPU, or to none
+module _ (es fs : Sets) (uprn : ℕ) (o : Option Keys) (none was now : Keys) (key : Key)
+    (there : o ≡ stored es uprn) (empty : none.keys ≡ []) (begun : was ≡ unwrap_or o none)
+    (more : (k : Key) → has_key now.keys k ≡ cond (eq_by_cmp key_cmp key k) true (has_key was.keys k))
+    (h : (n : ℕ) → stored fs n ≡ cond (uprn == n) (Some now) (stored es n)) where
+  had : (p : Option Keys) (k : Key) → has_key (unwrap_or p none).keys k ≡ has_key (items_of p) k
+  had None k = ap (λ (ks : List Key). has_key ks k) empty
+  had (Some s) k = refl
+
+  was_among : (k : Key) → has_key was.keys k ≡ among es uprn k
+  was_among k = ap (λ (s : Keys). has_key s.keys k) begun ∙ had o k ∙ ap (λ (p : Option Keys). has_key (items_of p) k) there
+
+  pub added : (n : ℕ) (k : Key) → among fs n k ≡ (is_tie uprn key n k || among es n k)
+  added n k = ap (λ (p : Option Keys). has_key (items_of p) k) (h n) ∙ by_test (uprn == n) refl
+    where
+      by_test : (b : Bool) → (uprn == n) ≡ b → has_key (items_of (cond b (Some now) (stored es n))) k ≡ ((b && eq_by_cmp key_cmp key k) || among es n k)
+      by_test true at =
+          more k ∙ or_cond (eq_by_cmp key_cmp key k) (has_key was.keys k)
+          ∙ ap (λ b. eq_by_cmp key_cmp key k || b) (was_among k ∙ ap (λ m. among es m k) (eqb-true uprn n at))
+      by_test false at = refl
 
 or_true : (a : Bool) → (a || true) ≡ true
 or_true true = refl
@@ -59,17 +82,12 @@ or_true false = refl
 
 module _ (x y : TiedKeys) (uprn : ℕ) (key : Key) (h : AddsTie x y uprn key) where
   pub more_tied : KeepsTies x y
-  more_tied n k under = ap (λ l. has_key l k) (h n) ∙ by_test (uprn == n)
-    where
-      by_test : (b : Bool) → has_key (cond b (keys_tied x n ++ key ∷ []) (keys_tied x n)) k ≡ true
-      by_test true = noted (keys_tied x n) (keys_tied x n) (keys_tied x n ++ key ∷ []) key refl refl k ∙ ap (λ b. eq_by_cmp key_cmp key k || b) under ∙ or_true (eq_by_cmp key_cmp key k)
-      by_test false = under
+  more_tied n k under = h n k ∙ ap (λ b. is_tie uprn key n k || b) under ∙ or_true (is_tie uprn key n k)
 
   pub now_tied : IsTiedTo y (Some uprn) key
   now_tied n is =
       let same : uprn ≡ n = cc in
-      ap (λ l. has_key l key) (h n) ∙ ap (λ b. has_key (cond b (keys_tied x n ++ key ∷ []) (keys_tied x n)) key) (eq-eqb uprn n same)
-      ∙ noted (keys_tied x n) (keys_tied x n) (keys_tied x n ++ key ∷ []) key refl refl key ∙ ap (λ b. b || has_key (keys_tied x n) key) ((eq_by_cmp_equiv keys_total).refl key)
+      h n key ∙ ap (λ b. (b && eq_by_cmp key_cmp key key) || is_tied x n key) (eq-eqb uprn n same) ∙ ap (λ b. b || is_tied x n key) ((eq_by_cmp_equiv keys_total).refl key)
 
 -- ---- what may be under a BLPU
 
@@ -79,6 +97,11 @@ may_all t none n k = ap (λ (o : Option TiedKeys). option_map_or (λ ks. is_tied
 
 pub ties_none : (t : Ties) (g : KeyHistories) (v w : ℕ) → t.counted ≡ None → AreTies t g v w
 ties_none t g v w none = ((λ n k is. may_all t none n k), (λ n k is. may_all t none n k))
+
+-- those that are counted still, or aren't any more
+pub ties_shed : (t s : Ties) (g : KeyHistories) (v w : ℕ) → (s ≡ t) ⊎ (s.counted ≡ None) → AreTies t g v w → AreTies s g v w
+ties_shed t s g v w (inl same) ties = subst (λ (x : Ties). AreTies x g v w) (sym same) ties
+ties_shed t s g v w (inr none) ties = ties_none s g v w none
 
 -- once they are
 pub may_some : (t : Ties) (x : TiedKeys) → t.counted ≡ Some x → (n : ℕ) (k : Key) → may_tie t n k ≡ is_tied x n k
@@ -142,12 +165,6 @@ ties_set t s g h m o key notes change ties = (last_found, working_found)
         by_key : (b : Bool) → eq_by_cmp key_cmp k key ≡ b → option_and_then named_by (cond b o (standing_at (versions_at g k) (m + 1))) ≡ Some n → may_tie s n k ≡ true
         by_key true at named = ap (may_tie s n) (same_key k key at) ∙ notes.noted n named
         by_key false at named = notes.kept n k (ties.1 n k named)
-
--- ---- whether a key is there
-
-pub found_among : (ks : List Key) (k : Key) → list_any (λ (y : Key). eq_by_cmp key_cmp y k) ks ≡ has_key ks k
-found_among [] k = refl
-found_among (x ∷ ks) k = λ i. (eq_by_cmp_equiv keys_total).symm x k i || found_among ks k i
 
 -- ---- what is found once a volume is judged or undone
 

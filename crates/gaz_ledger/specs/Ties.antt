@@ -1,9 +1,11 @@
 -- Where the items that name a BLPU are found, once that is asked for.
-use Rattle.std.specs.Prelude.{◌≡◌, ◌==◌, ◌++◌, ◌∷◌, [], ℕ, Bool, true, false, if◌then◌else◌, List}
+use Rattle.std.specs.Prelude.{◌≡◌, ◌==◌, ◌&&◌, ◌||◌, [], ℕ, Bool, true, false, List}
 use Rattle.std.specs.Prelude.{Option, Some, None}
 use Rattle.std.specs.Map.{lookup}
 use Rattle.std.specs.Option.{option_and_then, option_map_or}
+use Rattle.std.specs.Ordering.{eq_by_cmp}
 use Rattle.gaz_histories.specs.Histories.{standing_at}
+use Rattle.gaz_records.specs.Keys.{key_cmp}
 use Rattle.gaz_records.specs.declared.item.Item.{Item}
 use Rattle.gaz_records.specs.declared.item.Item.TheVariants as item
 use Rattle.gaz_records.specs.declared.key.Key.{Key}
@@ -31,15 +33,19 @@ names_at g volume uprn k = option_map_or (λ n. n == uprn) (named_at g volume k)
 -- ---- keys under the BLPU that their items name
 
 abbrev pub keys_tied : TiedKeys → ℕ → List Key
-keys_tied t uprn = option_map_or (λ ks. ks.items) (lookup (λ n. uprn == n) t.by_uprn.entries) []
+keys_tied t uprn = option_map_or (λ ks. ks.keys) (lookup (λ n. uprn == n) t.by_uprn.entries) []
 
 abbrev pub is_tied : TiedKeys → ℕ → Key → Bool
 is_tied t uprn k = has_key (keys_tied t uprn) k
 
--- the key stands behind those under the BLPU, and all else is as it was
+-- these are this BLPU and this key
+abbrev pub is_tie : ℕ → Key → ℕ → Key → Bool
+is_tie uprn key n k = uprn == n && eq_by_cmp key_cmp key k
+
+-- the key is under the BLPU too, and all else is as it was
 abbrev pub AddsTie : TiedKeys → TiedKeys → ℕ → Key → Type 0
 AddsTie old new uprn key =
-    (n : ℕ) → keys_tied new n ≡ (if uprn == n then keys_tied old n ++ key ∷ [] else keys_tied old n)
+    (n : ℕ) → (k : Key) → is_tied new n k ≡ (is_tie uprn key n k || is_tied old n k)
 
 -- each key that was under a BLPU is there still
 abbrev pub KeepsTies : TiedKeys → TiedKeys → Type 0

@@ -81,6 +81,10 @@ impl Custodies {
             return;
         };
         history.cut(volume);
+        if history.is_empty() {
+            // Keeps nothing of a number that was never passed on.
+            self.by_uprn.remove(&uprn);
+        }
     }
 }
 

@@ -54,6 +54,11 @@ impl Histories {
         }
     }
 
+    /// How many keys were ever used.
+    pub fn len(&self) -> usize {
+        self.by_key.len()
+    }
+
     /// The item at a key after a volume.
     pub fn item(&self, volume: u64, key: &Key) -> Option<&SharedItem>
         ensures { option_map (λ i. i.now) result

@@ -152,6 +152,7 @@ impl Ledger {
             &mut self.touched,
         );
         forget_all(&self.histories, &mut self.index, reached, &mut self.leaving);
+        self.ties.shed(self.histories.len());
         undo_passing(&mut self.custodies, reached, &mut self.passed);
     }
 

@@ -14,6 +14,7 @@ use gaz_histories::History;
 use gaz_ids::Uprn;
 use gaz_records::{SharedItem, SortKey};
 use std::alloc::AllocError;
+use std::collections::HashSet;
 
 impl Histories {
     // The BLPU that the item at a key names after a volume.
@@ -37,8 +38,8 @@ impl Histories {
     }
 
     /// Whether the item at one of these keys names a BLPU after a volume.
-    pub fn any_names(&self, volume: u64, uprn: Uprn, keys: &[SortKey]) -> bool
-        ensures { result ≡ list_any (names_at self.now volume uprn) keys.now }
+    pub fn any_names(&self, volume: u64, uprn: Uprn, keys: &HashSet<SortKey, Seed>) -> bool
+        ensures { result ≡ list_any (names_at self.now volume uprn) keys.now.keys }
     {
         for key in keys {
             if self.names(volume, uprn, key) {
@@ -48,8 +49,7 @@ impl Histories {
         false
     }
 
-    // Adds a key, which comes but once, under the BLPUs that its items name after a volume and after
-    // the next one.
+    // Adds a key under the BLPUs that its items name after a volume and after the next one.
     fn add_named(&self, keys: &mut TiedKeys, volume: u64, key: &SortKey) -> Result<(), AllocError>
         requires { volume < 2 ^ 64 - 1 }
         ensures kept { OnOk result (KeepsTies keys.old keys.new) }
@@ -59,11 +59,8 @@ impl Histories {
     {
         let first = self.named(volume, key);
         let next = self.named(volume + 1, key);
-        keys.add_new(first, *key)?;
-        if next == first {
-            return Ok(());
-        }
-        keys.add_new(next, *key)
+        keys.add_some(first, *key)?;
+        keys.add_some(next, *key)
     }
 
     /// The keys of all items that name a BLPU after a volume or after the next one.

@@ -1,5 +1,5 @@
 //! The items that name a BLPU, which are counted when they are asked for.
-ghost use Rattle.std.specs.Prelude.{◌≡◌, ◌+◌, ◌-◌, ◌<◌, ◌^◌, None, OnOk};
+ghost use Rattle.std.specs.Prelude.{◌≡◌, ◌⊎◌, ◌+◌, ◌-◌, ◌<◌, ◌^◌, None, OnOk};
 ghost use Rattle.std.specs.Option.{IsSome};
 ghost use Rattle.gaz_views.specs.Words.{tied};
 ghost use Rattle.gaz_ledger.specs.KeyHistories.{view_at};
@@ -19,6 +19,8 @@ use std::alloc::AllocError;
 pub struct Ties {
     seed: Seed,
     counted: Option<TiedKeys>,
+    // How many keys were noted since then.
+    noted: usize,
 }
 
 impl Ties {
@@ -29,6 +31,7 @@ impl Ties {
         Ties {
             seed,
             counted: None,
+            noted: 0,
         }
     }
 
@@ -50,7 +53,19 @@ impl Ties {
         let Some(keys) = &mut self.counted else {
             return;
         };
-        if keys.add_some(named_by(item), SortKey::of(key)).is_err() {
+        let added = keys.add_some(named_by(item), SortKey::of(key));
+        self.noted = self.noted.saturating_add(1);
+        if added.is_err() {
+            self.counted = None;
+        }
+    }
+
+    /// They aren't counted any more where more keys were noted since they were than `most`. Else
+    /// those of files that are rejected time and again would pile up.
+    pub fn shed(&mut self, most: usize)
+        ensures { (self.new ≡ self.old) ⊎ (self.new.counted ≡ None) }
+    {
+        if self.noted > most {
             self.counted = None;
         }
     }
@@ -67,6 +82,7 @@ impl Ties {
         }
         let keys = histories.tied_keys(self.seed, reached)?;
         self.counted = Some(keys);
+        self.noted = 0;
         Ok(())
     }
 

@@ -105,6 +105,7 @@ not_among v n (inr never) wrong = absurd never
 above_1 : AreAbove three_files 1001 1 (3 ∷ [])
 above_1 = record {
   only = λ v here. not_among v 3 here (λ is. (omega (arith, is), subst (λ n. IsSome (finite.get three_files (1001, n))) (sym is) there_3));
+  rising = (tt, tt);
   all = λ last v is above low. at v above (let e : 3 ≡ last = cc in omega (arith, e, low));
   none = λ e. cc;
 }
@@ -121,11 +122,12 @@ volumes = record {
   last = refl;
   last_of_none = refl;
   above_1 = above_1;
-  of_nothing = record { only = λ v here. absurd here; all = λ last v e above low some. none_there (1001, v) some; none = λ e v above some. none_there (1001, v) some };
+  of_nothing = record { only = λ v here. absurd here; rising = tt; all = λ last v e above low some. none_there (1001, v) some; none = λ e v above some. none_there (1001, v) some };
   ends_too_early = λ is. is.none refl 3 (omega arith) there_3;
   one_left_out = λ is. not_among 1 3 (is.all 3 1 refl (omega arith) (omega arith) there_1) (λ e. omega (arith, e));
   not_above = λ is. let more = (is.only 1 (inl refl)).0 in omega (arith, more);
   not_received = λ is. not_2 (is.only 2 (inl refl)).1;
+  told_twice = λ is. let more = is.rising.0.0 in omega (arith, more);
 }
 
 there : (v : ℕ) → Has (1 ∷ 3 ∷ []) v → IsSome (finite.get three_files (1001, v))

@@ -62,6 +62,7 @@ pub record WorkedVolumes : Type 0 where
   pub one_left_out : ¬ AreAbove three_files 1001 0 (3 ∷ [])
   pub not_above : ¬ AreAbove three_files 1001 1 (1 ∷ 3 ∷ [])
   pub not_received : ¬ AreAbove three_files 1001 1 (2 ∷ 3 ∷ [])
+  pub told_twice : ¬ AreAbove three_files 1001 0 (1 ∷ 1 ∷ 3 ∷ [])
 
 -- how much of the files is at hand
 pub record WorkedFiles : Type 0 where

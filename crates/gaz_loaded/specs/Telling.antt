@@ -5,6 +5,7 @@ use Rattle.std.specs.FinMap as map
 use Rattle.std.specs.Global.{Vec}
 use Rattle.std.specs.List.{All}
 use Rattle.sqlite_rules.specs.Lists.{Has}
+use Rattle.sqlite_trees.specs.Tree.{IsAscending}
 use Rattle.gaz_records.specs.Items.{is_entry}
 use Rattle.gaz_keeper.specs.Keeper.{Reads, Seen}
 use Rattle.gaz_keeper.specs.Received.{Received}
@@ -19,10 +20,11 @@ last_of xs = slice_get xs (length xs - 1)
 
 -- ---- volumes
 
--- received volumes of a custodian above one, with each up to the last of them; none where there is
--- none
+-- received volumes of a custodian above one, as they rise, with each up to the last of them; none
+-- where there is none
 pub record AreAbove (files : Received) (c volume : ℕ) (answer : List ℕ) : Type 0 where
   pub only : (v : ℕ) → Has answer v → (volume < v) × IsSome (map.get files (c, v))
+  pub rising : IsAscending (λ a b. a < b) answer
   pub all : (last v : ℕ) → last_of answer ≡ Some last → volume < v → v ≤ last
       → IsSome (map.get files (c, v)) → Has answer v
   pub none : last_of answer ≡ None → (v : ℕ) → volume < v → ¬ IsSome (map.get files (c, v))

@@ -1,7 +1,6 @@
 -- A keeper at rest has no working view.
 use Rattle.std.specs.Prelude.{◌≡◌, ℕ, List, refl}
-use Rattle.gaz_keeper.specs.Keeper.{Broken, Content, Idle, Open, Progress, Seen}
-use Rattle.gaz_shelf.specs.Faulting.{content_around}
+use Rattle.gaz_keeper.specs.Keeper.{Idle, Seen}
 use Rattle.gaz_shelf.specs.Mem.{progress_of, working_of}
 use Rattle.gaz_shelf.specs.declared.mem_shelf.Judging.{Judging}
 use Rattle.gaz_shelf.specs.declared.mem_shelf.Judging.TheVariants as judging
@@ -18,10 +17,3 @@ pub bare_in : (j : Judging) (es : List (ℕ × Account)) → progress_of j ≡ I
 bare_in judging.Idle es is = refl
 bare_in (judging.Open c) es is = cc
 bare_in judging.Broken es is = refl
-
--- a keeper around another
-pub bare_around : (p : Progress) (k : Content) → p ≡ Idle
-    → (content_around p k).working ≡ empty_view
-bare_around Idle k is = refl
-bare_around (Open c) k is = cc
-bare_around Broken k is = refl

@@ -1,9 +1,8 @@
 //! Keepers that nobody else can write on.
-ghost use Rattle.gaz_mirror.specs.Bare.{RestsBare, bare_around, bare_in};
-ghost use Rattle.gaz_shelf.specs.Faulting.{progress_around};
+ghost use Rattle.gaz_mirror.specs.Bare.{RestsBare, bare_in};
 
 use gaz_keeper::Inbox;
-use gaz_shelf::{Faulty, MemShelf};
+use gaz_shelf::MemShelf;
 
 /// A keeper that has what it keeps to itself: nobody else can write on it. Where no judgement is in
 /// progress it has no working view.
@@ -17,11 +16,4 @@ impl Unshared for MemShelf {
     ghost never_harmed = { λ _. tt };
 
     ghost rests_bare = { λ k. bare_in k.judging k.accounts.by_code.entries };
-}
-
-impl<K: Unshared + Drop> Unshared for Faulty<K> {
-    ghost never_harmed = { λ k. K.never_harmed k.inner };
-
-    ghost rests_bare = { λ k. bare_around (progress_around k.broken (K.seen k.inner).progress)
-        (K.seen k.inner).content };
 }

@@ -47,22 +47,6 @@ impl Overlay {
         Ok(merged(alloc, &spared, &own)?)
     }
 
-    /// The key of the address that the BLPU's property has, the first of its approved LPIs; `last`
-    /// are the keys of those of the last view. The property has the items that the laid view has
-    /// there and at the BLPU's own key, as `laid_questions` says.
-    pub fn address_of(
-        &self,
-        alloc: Global,
-        last: &[Key],
-        uprn: Uprn,
-    ) -> Result<Option<Key>, AllocError>
-        ensures { IfOk result (λ key. key
-            ≡ first_of (both self.now.view last.now (approved_of self.now.view uprn))) }
-    {
-        let keys = self.approved_of(alloc, last, uprn)?;
-        Ok(keys.first().copied())
-    }
-
     /// Whether an approved LPI is on the street, in this language where one is given; `last` are
     /// the keys of those of the last view.
     pub fn approved_on(&self, last: &[Key], usrn: Usrn, lang: Option<Lang>) -> bool

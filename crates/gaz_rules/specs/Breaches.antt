@@ -1,5 +1,5 @@
 -- The end rules that a key breaks, by what stands there and by the key itself.
-use Rattle.std.specs.Prelude.{ℕ, Bool, false, ◌||◌, List, [], ◌∷◌}
+use Rattle.std.specs.Prelude.{ℕ, Bool, false, ◌||◌, List, [], ◌∷◌, map}
 use Rattle.gaz_records.specs.declared.key.Key.{Key}
 use Rattle.gaz_records.specs.declared.key.Key.TheVariants as key
 use Rattle.gaz_views.specs.View.{View, holds}
@@ -7,6 +7,7 @@ use Rattle.gaz_rules.specs.EndRules.{closed_under_lpi, is_own_ancestor, is_past,
 use Rattle.gaz_rules.specs.EndRules.{lacks_blpu, lacks_descriptor, lacks_own_street, lacks_parent}
 use Rattle.gaz_rules.specs.EndRules.{lacks_street, leaves_lpi, leaves_parts, leaves_ties}
 use Rattle.gaz_rules.specs.EndRules.{names_closed, names_past, past_under_lpi}
+use Rattle.gaz_rules.specs.declared.end_rules.Asked.{Asked}
 use Rattle.gaz_rules.specs.declared.key_faults.KeyFaults.{KeyFaults}
 use Rattle.gaz_rules.specs.declared.name_faults.BlpuState.{BlpuState}
 use Rattle.gaz_rules.specs.declared.name_faults.NameFaults.{NameFaults}
@@ -76,3 +77,7 @@ numbered n k =
     ∷ (38, k.lacks_own_street)
     ∷ (39, k.closed_under_lpi)
     ∷ []
+
+-- the rules that were asked, by number
+abbrev pub answers : List Asked → List (ℕ × Bool)
+answers = map (λ a. (a.rule, a.is_broken))

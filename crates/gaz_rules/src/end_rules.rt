@@ -1,10 +1,10 @@
 //! The end rules of a key, over any keeper.
-ghost use Rattle.std.specs.Prelude.{◌≡◌};
+ghost use Rattle.std.specs.Prelude.{◌≡◌, ◌||◌, true, IfNone, IfOk};
 ghost use Rattle.std.specs.FinMap as map;
 ghost use Rattle.gaz_records.specs.Keys.{key_of};
-ghost use Rattle.gaz_rules.specs.Breaches.{key_faults, numbered};
+ghost use Rattle.gaz_rules.specs.Breaches.{answers, key_faults, numbered};
 ghost use Rattle.gaz_rules.specs.EndRules.{end_rules};
-ghost use Rattle.gaz_rules.specs.Knowing.{IsRight};
+ghost use Rattle.gaz_rules.specs.Knowing.{IsRight, has_passed};
 ghost use Rattle.gaz_rules.specs.Rings.{Knows};
 ghost use Rattle.gaz_rules.specs.Rules.{first_broken};
 ghost use Rattle.gaz_rules.specs.Working.{IsJudging, ReadsView, ReadsViews};
@@ -20,23 +20,57 @@ use gaz_ids::Code;
 use gaz_keeper::{Shelf, ShelfFault};
 use gaz_records::{Item, Key, SharedItem, key_of};
 
+/// An end rule that was asked, and whether it is broken.
+#[derive(Clone, Copy)]
+struct Asked {
+    rule: u8,
+    is_broken: bool,
+}
+
+impl Asked {
+    fn new(rule: u8, is_broken: bool) -> Asked
+        ensures { result ≡ record { rule = rule; is_broken = is_broken } }
+    {
+        Asked { rule, is_broken }
+    }
+
+    // One that is broken in either of two ways.
+    fn either(rule: u8, one: bool, other: bool) -> Asked
+        ensures { result ≡ record { rule = rule; is_broken = one || other } }
+    {
+        Asked::new(rule, one || other)
+    }
+}
+
+// The first of these rules that is broken.
+fn first_broken(rules: &[Asked]) -> Option<u8>
+    ensures { result ≡ first_broken (answers rules.now) }
+{
+    for asked in rules {
+        if asked.is_broken {
+            return Some(asked.rule);
+        }
+    }
+    None
+}
+
 // The least rule that is broken.
 fn least(names: NameFaults, keys: KeyFaults) -> Option<u8>
     ensures { result ≡ first_broken (numbered names keys) }
 {
     let rules = [
-        (rule::SECOND, names.is_second),
-        (rule::UNTIED, names.lacks_blpu || keys.leaves_ties),
-        (rule::LACKS_STREET, names.lacks_street),
-        (rule::NAMES_CLOSED, names.names_closed),
-        (rule::UNNAMED, names.lacks_descriptor || keys.leaves_lpi),
-        (rule::APART, keys.lacks_parent || keys.leaves_parts),
-        (rule::OWN_ANCESTOR, keys.is_own_ancestor),
-        (rule::OUT_OF_DATE, names.names_past || keys.past_under_lpi),
-        (rule::LACKS_OWN_STREET, keys.lacks_own_street),
-        (rule::CLOSED_UNDER_LPI, keys.closed_under_lpi),
+        Asked::new(rule::SECOND, names.is_second),
+        Asked::either(rule::UNTIED, names.lacks_blpu, keys.leaves_ties),
+        Asked::new(rule::LACKS_STREET, names.lacks_street),
+        Asked::new(rule::NAMES_CLOSED, names.names_closed),
+        Asked::either(rule::UNNAMED, names.lacks_descriptor, keys.leaves_lpi),
+        Asked::either(rule::APART, keys.lacks_parent, keys.leaves_parts),
+        Asked::new(rule::OWN_ANCESTOR, keys.is_own_ancestor),
+        Asked::either(rule::OUT_OF_DATE, names.names_past, keys.past_under_lpi),
+        Asked::new(rule::LACKS_OWN_STREET, keys.lacks_own_street),
+        Asked::new(rule::CLOSED_UNDER_LPI, keys.closed_under_lpi),
     ];
-    rules.iter().find(|rule| rule.1).map(|rule| rule.0)
+    first_broken(&rules)
 }
 
 // What a key breaks under which this stands.
@@ -85,7 +119,25 @@ fn breach_at<K: Shelf>(
     Ok(least(names, keys))
 }
 
-/// The least end rule that the key of an item breaks.
+// The least end rule that a key breaks.
+fn breach_of<K: Shelf>(
+    keeper: &mut K,
+    code: Code,
+    bases: &[Basis],
+    known: &mut Known,
+    key: &Key,
+) -> Result<Option<u8>, ShelfFault>
+    requires { IsJudging K.seen keeper.old code }
+    ensures { ReadsViews K.seen keeper.old keeper.new result bases.now (λ view others r.
+        IsRight view others known.old
+        → IsRight view others known.new
+        × (r ≡ first_broken (end_rules view others key.now))) }
+{
+    let stored = keeper.current(code, key)?;
+    Ok(breach_at(keeper, code, bases, known, key, &stored)?)
+}
+
+/// The least end rule that the key of an item breaks. A key that broke none isn't asked again.
 pub(crate) fn breach<K: Shelf>(
     keeper: &mut K,
     code: Code,
@@ -94,12 +146,20 @@ pub(crate) fn breach<K: Shelf>(
     item: &Item,
 ) -> Result<Option<u8>, ShelfFault>
     requires { IsJudging K.seen keeper.old code }
-    ensures { ReadsViews K.seen keeper.old keeper.new result bases.now (λ view others r.
+    ensures broken { ReadsViews K.seen keeper.old keeper.new result bases.now (λ view others r.
         IsRight view others known.old
         → IsRight view others known.new
         × (r ≡ first_broken (end_rules view others (key_of item.now)))) }
+    ensures passed { IfOk result (λ r.
+        IfNone r (has_passed known.new.passed (key_of item.now) ≡ true)) }
 {
     let key = key_of(item);
-    let stored = keeper.current(code, &key)?;
-    Ok(breach_at(keeper, code, bases, known, &key, &stored)?)
+    if known.passed.has(&key) {
+        return Ok(None);
+    }
+    if let Some(rule) = breach_of(keeper, code, bases, known, &key)? {
+        return Ok(Some(rule));
+    }
+    known.passed.add(&key)?;
+    Ok(None)
 }

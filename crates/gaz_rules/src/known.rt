@@ -4,6 +4,7 @@ ghost use Rattle.gaz_views.specs.View.{View};
 ghost use Rattle.gaz_rules.specs.Knowing.{IsRight};
 
 use crate::last_street::LastStreet;
+use crate::passed::Passed;
 use crate::rings::Walked;
 use std::alloc::Global;
 
@@ -12,6 +13,7 @@ use std::alloc::Global;
 pub(crate) struct Known {
     pub(crate) walked: Walked,
     pub(crate) street: LastStreet,
+    pub(crate) passed: Passed,
 }
 
 impl Known {
@@ -22,6 +24,7 @@ impl Known {
         Known {
             walked: Walked::new(alloc),
             street: LastStreet::new(),
+            passed: Passed::new(alloc),
         }
     }
 }

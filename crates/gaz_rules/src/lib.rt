@@ -11,6 +11,7 @@ mod known;
 mod last_street;
 pub mod laws;
 mod name_faults;
+mod passed;
 mod performing;
 mod record_rules;
 mod rings;

@@ -1,9 +1,4 @@
 pub mod Highest
-pub mod Reading
-pub mod Writing
-pub mod Calls
-pub mod Faulting
-pub mod Around
 pub mod Accounts
 pub mod Mem
 pub mod Examples

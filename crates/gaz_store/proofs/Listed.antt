@@ -68,6 +68,7 @@ has_got (y ∷ xs) (suc n) x is = inr (has_got xs n x is)
 pub volumes_listed : (files : Received) (c above : ℕ) (volumes : List ℕ) → TellsVolumes files c above volumes → AreAbove files c above volumes
 volumes_listed files c above volumes it = record {
   only = λ v here. (it.higher v here, it.received v here);
+  rising = it.rising;
   all = λ last v is more le some. it.complete v last some more (has_got volumes (length volumes - 1) last is) le;
   none = λ is v more some. it.ends (empty_is volumes is) v more some;
 }

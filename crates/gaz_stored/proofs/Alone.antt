@@ -9,7 +9,8 @@ use Rattle.gaz_commands.specs.Obeying.{Obeys}
 use Rattle.gaz_commands.specs.declared.said.Said.{Said}
 use Rattle.gaz_stored.specs.Ways.{Asks, GoesBy, Way}
 use Rattle.gaz_stored.proofs.Filled.{over_parts}
-use Rattle.gaz_hub.specs.Waiting.{Remembered, remembering}
+use Rattle.gaz_waiters.specs.Remembered.{Remembered}
+use Rattle.gaz_hub.specs.Waiting.{remembering}
 use Rattle.gaz_register.specs.Registers.{RegisterValue}
 use Rattle.gaz_keeper.specs.Keeper.{Seen}
 

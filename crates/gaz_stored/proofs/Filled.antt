@@ -8,7 +8,8 @@ use Rattle.gaz_shelf.specs.Mem.{seen_in}
 use Rattle.gaz_shelf.specs.declared.mem_shelf.MemShelf.{MemShelf}
 use Rattle.gaz_hub.specs.Hubs.{StandsFor, door_of}
 use Rattle.gaz_hub.specs.Seen.{hub_seen}
-use Rattle.gaz_hub.specs.Waiting.{Remembered, remembering}
+use Rattle.gaz_waiters.specs.Remembered.{Remembered}
+use Rattle.gaz_hub.specs.Waiting.{remembering}
 use Rattle.gaz_hub.specs.declared.hub.Hub.{Hub}
 use Rattle.gaz_hub.proofs.Advancing.{may_keep}
 use Rattle.gaz_loaded.specs.Files.{OnlyReads}

@@ -16,7 +16,7 @@ SaysWhere None held holds = ⊥
 SaysWhere (Some port) held holds = Appends held holds (listening port)
 
 -- what was written, by how it ended: that line where peers were answered; nothing where there was
--- no port or no hub; perhaps a front of the line where the writer failed
+-- no port or no hub; where the writer failed, it isn't said
 abbrev pub IsAnnounced : {N : Type 0} → Option ℕ → Option (List ℕ) → Option (List ℕ)
     → Result (Result N Unserved) StoreRefusal → Type 0
 IsAnnounced port held holds (Ok (Ok served)) = SaysWhere port held holds

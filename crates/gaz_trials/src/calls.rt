@@ -1,7 +1,8 @@
 //! The list of calls over keepers in memory.
 use crate::wanted::counts_all;
+use gaz_faulty::Calls;
 use gaz_samples::keepers::{Refusal, Tried, counting_shelf, performs_all};
-use gaz_shelf::{Calls, MemShelf, Seed};
+use gaz_shelf::{MemShelf, Seed};
 use std::alloc::Global;
 use std::process::Abort;
 use std::test::Fail;

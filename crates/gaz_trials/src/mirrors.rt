@@ -4,10 +4,11 @@ ghost use Rattle.gaz_keeper.specs.Keeper.{Idle};
 
 use crate::calls::are_read;
 use crate::wanted::counts_all;
+use gaz_faulty::{Calls, Faulty};
 use gaz_keeper::Inbox;
 use gaz_mirror::{Mirror, Unshared};
 use gaz_samples::keepers::{Refusal, Tried, performs_all};
-use gaz_shelf::{Calls, Faulty, MemShelf, Seed};
+use gaz_shelf::{MemShelf, Seed};
 use std::alloc::Global;
 use std::process::Abort;
 use std::test::Fail;

@@ -1,14 +1,14 @@
 -- A site in memory, of which it is known what is done at it: texts at paths, the files of one
 -- store, and a peer that may come.
-use Rattle.std.specs.Prelude.{◌≡◌, ◌≤◌, ⊤, ℕ, List, [], length, Option, Some, None}
+use Rattle.std.specs.Prelude.{◌≡◌, ⊤, ℕ, List, [], take, Option, Some, None}
 use Rattle.sqlite_disk.specs.declared.Files.{Files}
 use Rattle.gaz_stored.specs.Meetings.{Meeting, Missed, Came, Left}
 use Rattle.gazhub.specs.Sites.{Closed, Deed, Listened, Met, Opened, Read}
 
--- a text is read whole or not at all: it is too long, or there is no memory
+-- a text is read, of a longer one so many bytes; or there is no memory
 abbrev pub IsReadOf : List ℕ → ℕ → Option (List ℕ) → Type 0
 IsReadOf text most None = ⊤
-IsReadOf text most (Some bytes) = (bytes ≡ text) × (length text ≤ most)
+IsReadOf text most (Some bytes) = bytes ≡ take most text
 
 -- Below, a state of it has these texts at paths and these files; this is what a peer says that is
 -- still to come, and that is what the last one was told.

@@ -11,7 +11,8 @@ use Rattle.gaz_kept.specs.declared.refusal.StoreRefusal.{StoreRefusal}
 use Rattle.gaz_register.specs.Registers.{RegisterValue}
 use Rattle.gaz_store.specs.Opened.{IsRefused}
 use Rattle.gaz_stored.specs.Calls.{Whole}
-use Rattle.gazhub.specs.Filing.{FailsToConnect, HasNoStore, IfConnectionFails, OverFiles}
+use Rattle.gazhub.specs.Filing.{FailsToConnect, HasNeither, HasNoStore, IfConnectionFails}
+use Rattle.gazhub.specs.Filing.{OverFiles}
 use Rattle.gazhub.specs.Joined.{Declined, FileCall, FollowOn, IsGiven}
 
 module _ {D : Type 0} (g : disk.Ghosts D) where
@@ -37,6 +38,10 @@ module _ {D : Type 0} (g : disk.Ghosts D) where
     pub refused : (register : RegisterValue) (refusal : StoreRefusal)
         (conn back : Held (FileStore D g))
         → HasNoStore g register refusal conn back → IsRefused over_files conn back
+    -- nor one that could be migrated to it
+    pub not_migrated : (register : RegisterValue) (refusal : StoreRefusal)
+        (conn back : Held (FileStore D g))
+        → HasNeither g register refusal conn back → IsRefused over_files conn back
     -- what is left as it was where no connection could be had, and nothing given back
     pub left_alone : (files : Files D) → FailsToConnect g files files
     pub kept_back : (files : Files D) → ¬ IfConnectionFails g files None

@@ -81,10 +81,9 @@ impl Site for Desk {
         } else {
             self.change
         };
-        if text.len() as u64 > most {
-            return None;
-        }
-        Vec::from_slice(self.alloc, text.as_bytes()).ok()
+        let bytes = text.as_bytes();
+        let front = bytes.get(..most as usize).unwrap_or(bytes);
+        Vec::from_slice(self.alloc, front).ok()
     }
 
     fn open(&mut self, _path: &str, _purpose: Purpose) -> Option<(Files<QuietDisk>, Options)> {

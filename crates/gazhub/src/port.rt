@@ -12,7 +12,7 @@ const PATIENCE: u64 = 28;
 const PARTING: u64 = 1;
 
 /// The most reads of what a peer sends behind the last reply.
-const READS: u32 = 512;
+const READS: u32 = 64;
 
 /// The next peer, to read from and to write to. What is written leaves at once where it is flushed,
 /// and nobody waits longer for the peer than `PATIENCE`.
@@ -36,7 +36,7 @@ pub fn part(stream: &mut TcpStream) {
     if stream.shutdown(Shutdown::Write).is_err() || stream.set_read_timeout(parting).is_err() {
         return;
     }
-    let mut taken = [0; 4096];
+    let mut taken = [0; 32_768];
     for _ in 0..READS {
         match stream.read(&mut taken) {
             Ok(0) | Err(_) => return,

@@ -4,8 +4,8 @@ use crate::keepers::passing::{adopts, releases};
 use crate::keepers::refusal::Refusal;
 use crate::keepers::steps::{Act, Name};
 use crate::keepers::tried::Tried;
+use crate::writing::Conclusion;
 use gaz_keeper::Inbox;
-use gaz_shelf::Conclusion;
 use std::alloc::Global;
 
 fn receives<K: Inbox + Drop>(shelf: &mut Tried<K>, code: u64, number: u64) -> Result<(), Refusal> {

@@ -2,10 +2,10 @@
 use crate::items::Row;
 use crate::keepers::passing::Passage;
 use crate::keepers::refusal::Refusal;
+use crate::writing::Conclusion;
 use gaz_ids::{Lang, Uprn, Usrn};
 use gaz_keeper::Verdict;
 use gaz_records::{Key, Kind, RecordKey};
-use gaz_shelf::Conclusion;
 
 /// A key, by its number or its text.
 pub enum Name {

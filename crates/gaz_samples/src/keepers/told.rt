@@ -5,10 +5,10 @@ use crate::keepers::refusal::Refusal;
 use crate::keepers::rows::{are_rows, is_property, is_row, reads};
 use crate::keepers::steps::{Became, Name, Page, View};
 use crate::keepers::tried::Tried;
+use crate::reading::read_kind;
 use gaz_ids::{Code, Lang, Usrn};
 use gaz_keeper::{Inbox, ShelfFault, Verdict};
 use gaz_records::{Kind, SharedItem};
-use gaz_shelf::read_kind;
 use std::alloc::Global;
 
 impl<K: Inbox + Drop> Tried<K> {

@@ -4,10 +4,12 @@ ghost use Rattle.std.specs.Prelude.{◌≡◌, ℕ, IfOk, None, Some};
 ghost use Rattle.gaz_keeper.specs.Keeper.{IsNotOpen, Open};
 
 use crate::keepers::refusal::Refusal;
+use crate::writing::{Conclusion, are_entries, write_volume};
+use gaz_faulty::Faulty;
 use gaz_ids::{Code, Volume};
 use gaz_keeper::Inbox;
 use gaz_records::{Key, SharedItem};
-use gaz_shelf::{Conclusion, Faulty, MemShelf, Seed, are_entries, write_volume};
+use gaz_shelf::{MemShelf, Seed};
 use std::alloc::Global;
 
 /// A keeper, and whose judgement is in progress, where one is known to be.

@@ -4,8 +4,8 @@ use crate::keepers::steps::Name::{Lpi, Street, Xref};
 use crate::keepers::steps::Part;
 use crate::keepers::steps::Question::Item;
 use crate::keepers::steps::Step::{Asks, Does};
+use crate::writing::Conclusion;
 use gaz_records::Kind;
-use gaz_shelf::Conclusion;
 
 pub(crate) const MAIN: &str = "101,1,2001-04-01,";
 

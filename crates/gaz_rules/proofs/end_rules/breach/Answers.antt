@@ -1,30 +1,53 @@
--- What is told of the key that was looked up.
-use Rattle.std.proofs.Common.{◌≡◌, ◌∙◌, ℕ, true, List, ap, subst}
-use Rattle.std.specs.Prelude.{Option}
-use Rattle.std.specs.FinMap as map
-use Rattle.gaz_changefile.specs.declared.change.Basis.{Basis}
+-- A key that passed breaks nothing still, and one that breaks nothing has passed.
+use Rattle.std.proofs.Common.{◌≡◌, ◌∙◌, ◌||◌, ℕ, true, List, ap, subst, sym}
+use Rattle.std.specs.Prelude.{None}
 use Rattle.gaz_records.specs.declared.key.Key.{Key}
-use Rattle.gaz_keeper.specs.Keeper.{Content, view_of}
-use Rattle.gaz_rules.specs.Bases.{are_reached, basis_views}
-use Rattle.gaz_rules.specs.EndRules.{end_rules}
-use Rattle.gaz_rules.specs.Knowing.{IsRight}
+use Rattle.gaz_views.specs.View.{View}
+use Rattle.gaz_rules.specs.Bases.{basis_views}
+use Rattle.gaz_rules.specs.EndRules.{end_rules, same_key}
+use Rattle.gaz_rules.specs.Knowing.{HavePassed, has_passed}
 use Rattle.gaz_rules.specs.Rules.{first_broken}
-use Rattle.gaz_rules.specs.declared.known.Known.{Known}
-use Rattle.gaz_keeper.proofs.Keeping.{view_open}
-use Rattle.gaz_rules.proofs.Progress.{reads_both}
+use Rattle.gaz_rules.specs.declared.passed.Passed.{Passed}
+use Rattle.gaz_rules.proofs.Booleans.{by_test}
+use Rattle.gaz_rules.proofs.Keys.{key_itself, key_tied}
+use Rattle.gaz_rules.proofs.Progress.{reads_none}
 use Rattle.gaz_rules.proofs.end_rules.breach.Goals as goal
 
-abbrev Told : List Basis → Known → Known → Content → Key → Option ℕ → Type 0
-Told bases before after k at r = IsRight k.working (basis_views k.board bases) before → IsRight k.working (basis_views k.board bases) after × (r ≡ first_broken (end_rules k.working (basis_views k.board bases) at))
+-- one more key passes
+one_more : (v : View) (others : List (ℕ × View)) (p q : Passed) (k : Key) → HavePassed v others p → first_broken (end_rules v others k) ≡ None
+    → ((j : Key) → has_passed q j ≡ (same_key k j || has_passed p j)) → HavePassed v others q
+one_more v others p q k passed breaks_none more j has =
+    by_test (same_key k j)
+    (λ same. subst (λ x. first_broken (end_rules v others x) ≡ None) (key_tied k j same) breaks_none)
+    (λ other. passed j (sym (ap (λ b. b || has_passed p j) other) ∙ sym (more j) ∙ has))
 
-pub returns : goal.returns
-returns g c =
-    let was = g.K.Shelf.seen c.args.keeper.now in
-    let after = c.breach_at.new.known in
+pub returns-then-has-clause-broken : goal.returns-then-has-clause-broken
+returns-then-has-clause-broken g c =
+    let was = (g.K.Shelf.seen c.args.keeper.now).content in
+    let others = basis_views was.board c.args.bases.now in
+    reads_none _ c.args.code _ _ c.requires
+    (λ _ _ _ right. (right, sym (right.2 c.key_of-key.result (sym c.has.ensures ∙ c.if-has.true)) ∙ ap (λ k. first_broken (end_rules was.working others k)) c.key_of-key.ensures))
+
+pub returns-clause-broken : goal.returns-clause-broken
+returns-clause-broken g c =
+    let did = c.in_ok-rule.ensures in
+    let was = (g.K.Shelf.seen c.args.keeper.now).content in
+    let others = basis_views was.board c.args.bases.now in
     let at = c.key_of-key.result in
-    let stored = c.in_ok-stored.stored in
-    reads_both _ _ _ _ c.in_ok-breach_at.field-0 _ (λ i. i ≡ map.get (view_of was c.args.code).items at)
-    (λ k r. are_reached k.board c.args.bases.now ≡ true → stored ≡ map.get k.working.items at → Told c.args.bases.now c.args.known.now after k at r) _
-    c.in_ok-stored.ensures c.in_ok-breach_at.ensures
-    (λ here told reached. subst (λ x. Told c.args.bases.now c.args.known.now after was.content x c.in_ok-breach_at.field-0) c.key_of-key.ensures
-    (told reached (here ∙ ap (λ v. map.get v.items at) (view_open was c.args.code c.requires))))
+    record {
+      keeps = did.keeps;
+      right = λ stood fine reached right.
+          let told = did.right stood fine reached right in
+          let breaks_none : first_broken (end_rules was.working others at) ≡ None = sym told.1 ∙ c.in_default.is in (
+            (told.0.0, told.0.1, one_more was.working others c.breach_of.new.known.passed c.add.new.self at told.0.2 breaks_none c.in_ok-add.ensures),
+            sym breaks_none ∙ ap (λ k. first_broken (end_rules was.working others k)) c.key_of-key.ensures,
+          );
+      cleared = did.cleared;
+      counts = record { kept = did.counts.kept; store = tt; trust = did.counts.trust };
+    }
+
+pub returns-clause-passed : goal.returns-clause-passed
+returns-clause-passed g c =
+    let at = c.key_of-key.result in
+    subst (λ k. has_passed c.add.new.self k ≡ true) c.key_of-key.ensures
+    (c.in_ok-add.ensures at ∙ ap (λ b. b || has_passed c.breach_of.new.known.passed at) (key_itself at))

@@ -10,11 +10,11 @@ pub returns-in-Some : goal.returns-in-Some
 returns-in-Some g c =
     asked_last _ (g.K.Shelf.seen c.loop-change.keeper) _ c.args.code c.args.bases.now c.args.changes.now c.loop-change.change-index c.change-item.result c.loop-change.known c.breach.new.known c.in-Some.rule _
     c.loop-change-test.true c.change-item.is c.loop-change.invariant
-    (rw (c.in-Some.is, c.deref.ensures) at c.in_ok-rule.ensures)
+    (rw (c.in-Some.is, c.deref.ensures) at c.in_ok-rule.ensures.broken)
     refl
 
 pub loop-change-preserved : goal.loop-change-preserved
 loop-change-preserved g c =
     asked_on _ (g.K.Shelf.seen c.loop-change.keeper) _ c.args.code c.args.bases.now c.args.changes.now c.loop-change.change-index c.change-item.result c.loop-change.known c.breach.new.known
     c.loop-change-test.true c.change-item.is c.loop-change.invariant
-    (rw (c.in_default.is, c.deref.ensures) at c.in_ok-rule.ensures)
+    (rw (c.in_default.is, c.deref.ensures) at c.in_ok-rule.ensures.broken)

@@ -7,7 +7,7 @@ use Rattle.gaz_ledger.proofs.ties.Ties.has.Goals as goal
 
 pub returns-in-Some-get : goal.returns-in-Some-get
 returns-in-Some-get c =
-    c.any_names.ensures ∙ ap (λ (l : List Key). list_any (names_at c.args.histories.now c.args.volume c.args.uprn) l) (c.deref.ensures.value ∙ c.in-Some-get.ensures)
+    c.any_names.ensures ∙ ap (λ (l : List Key). list_any (names_at c.args.histories.now c.args.volume c.args.uprn) l) c.in-Some-get.ensures
     ∙ any_tied c.args.self.now c.in-Some.counted c.args.histories.now c.args.volume c.args.uprn c.in-Some.is c.requires.finds
 
 pub returns-in-None : goal.returns-in-None

@@ -1,0 +1,4 @@
+pub mod Calls
+pub mod Faulting
+pub mod Around
+pub mod Bare
