@@ -4,7 +4,7 @@ use std::marker::Model;
 use thiserror::Error;
 
 /// Why five fields are no object: the first of these that applies, in the order that `Object::read`
-/// gives.
+/// gives. `Memory` may come in place of any other answer.
 #[derive(Clone, Copy, Debug, Error)]
 pub enum ObjFault {
     #[error("no field is filled")]

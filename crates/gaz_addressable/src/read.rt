@@ -111,7 +111,8 @@ impl Object {
     ///
     /// The faults in order: `Empty` where all five are; `BadNumber` (start); `BadSuffix` (start),
     /// also without a start number; `BadNumber` (end); `EndWithoutStart`; `BadSuffix` (end), also
-    /// without an end number; `EndNotAfterStart`; `BadText`; `TextTooLong`.
+    /// without an end number; `EndNotAfterStart`; `BadText`; `TextTooLong`. `Memory` may come in
+    /// place of any other answer.
     pub fn read(alloc: Global, fields: [&[u8]; 5]) -> Result<Object, ObjFault>
         ensures { OrMemory result (object_of_fields (map (λ f. f.now) fields.entry)) }
     {

@@ -8,7 +8,8 @@ use std::marker::Model;
 use std::str;
 use thiserror::Error;
 
-/// Why bytes are no text of a length. The faults are looked for in this order.
+/// Why bytes are no text of a length. The faults are looked for in this order; `Memory` may come in
+/// place of any other answer.
 #[derive(Clone, Copy, Debug, Error)]
 pub enum TextFault {
     /// Not UTF-8, no character, a control character, or a space at an end.

@@ -7,6 +7,10 @@ use Rattle.gaz_views.specs.declared.verdict.Verdict.{Verdict}
 use Rattle.gaz_kept.specs.Files.{verdict_of}
 use Rattle.gaz_kept.specs.Versions.{number_in}
 
+-- the most rows of one answer
+abbrev pub most_rows : ℕ
+most_rows = 512
+
 -- the verdict of the first row, of state, place and rule
 abbrev pub SaysVerdict : List Row → Option Verdict → Type 0
 SaysVerdict [] v = v ≡ None

@@ -61,7 +61,7 @@ pub record AreReady {S : Type 0} {store : Ghosts S} (t : Tables S store) : Type 
   pub settled : IsSettled (state store t.conn)
   pub unsure : t.sure ≡ false
 
--- a fault, and the tables but for the count
+-- a fault changes nothing but the count of failures, and one of the store is counted
 pub record Fails {S : Type 0} {store : Ghosts S} (old new : Tables S store) (fault : ShelfFault)
     : Type 0 where
   pub conn : new.conn ≡ old.conn

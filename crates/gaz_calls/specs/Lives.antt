@@ -9,12 +9,15 @@ use Rattle.sqlite_rules.specs.Lists.{Has}
 use Rattle.sqlite_trees.specs.Tree.{IsAscending}
 use Rattle.gaz_records.specs.Items.{is_entry}
 use Rattle.gaz_records.specs.declared.item.Item.{Item}
+use Rattle.gaz_cells.specs.Custody.{custody_kind}
 use Rattle.gaz_overlay.specs.Rows.{never}
-use Rattle.gaz_tables.specs.Rowids.{IsAnyRow, IsPlacedBehind, rowid_of}
+use Rattle.gaz_tables.specs.Rowids.{IsPlacedBehind, rowid_of}
+use Rattle.gaz_tables.specs.Shows.{IsAnyRow}
 use Rattle.gaz_tables.specs.Versions.{born_of, cust_of, gone_of, kind_of}
 use Rattle.gaz_kept.specs.Versions.{history_in, item_in, number_in}
 use Rattle.gaz_loaded.specs.Telling.{told}
 use Rattle.gaz_loaded.specs.declared.listed.Life.{Life}
+use Rattle.gaz_calls.specs.Answers.{most_rows}
 use Rattle.gaz_calls.specs.declared.life_rows.LifePage.{LifePage}
 use Rattle.gaz_calls.specs.declared.life_rows.LifePage.TheVariants.{Behind, Lives}
 
@@ -22,7 +25,7 @@ use Rattle.gaz_calls.specs.declared.life_rows.LifePage.TheVariants.{Behind, Live
 
 -- the row is an item's: of any kind but 92
 abbrev pub is_items : Row → Bool
-is_items r = not (number_in (kind_of r) == 92)
+is_items r = not (number_in (kind_of r) == custody_kind)
 
 -- the volume in which an item went, or none while it is current
 abbrev pub gone_in : ℕ → Option ℕ
@@ -86,7 +89,7 @@ pub record TellsLives (after : Option ℤ) (lives : List Life) (rows : List Row)
   pub rising : IsAscending (λ a b. a.place <ℤ b.place) lives
   -- there is none only where no row of an item is left
   pub ends : lives ≡ [] → (r : Row) → Has rows r → is_items r ≡ true → ¬ IsRowBehind after r
-  pub few : length lives ≤ 512
+  pub few : length lives ≤ most_rows
 
 -- what is asked for behind a rowid is just what is behind another: no item's row is between them
 pub record GoesOn (after place : Option ℤ) (rows : List Row) : Type 0 where

@@ -1,6 +1,7 @@
 -- What rows of kind 92 say, number by number.
 use Rattle.std.specs.Prelude.{◌≡◌, ⊤, ℕ, min, true, List, [], ◌∷◌, Option, Some, None}
 use Rattle.sqlite.specs.Order.{Row, column}
+use Rattle.gaz_ids.specs.Limits.{last_volume}
 use Rattle.gaz_records.specs.declared.key.Key.TheVariants as key
 use Rattle.gaz_records.specs.declared.item.Kind.TheVariants as kind
 use Rattle.gaz_cells.specs.Ids.{id_of, is_key, key_named}
@@ -21,11 +22,11 @@ SayPassages (r ∷ rows) [] = ⊥
 SayPassages (r ∷ rows) (x ∷ passages) = SaysPassage r x × SayPassages rows passages
 
 -- the id and the volume behind which the rows stand that come behind a passage; no custodian has a
--- volume behind the 999,999th
+-- volume behind the last
 pub record IsBehindPassage (x : Passage) (id : List ℕ) (born : ℕ) : Type 0 where
   pub known : is_key (key.Blpu x.uprn) ≡ true
   pub named : id ≡ id_of (key.Blpu x.uprn)
-  pub capped : born ≡ min x.born 999999
+  pub capped : born ≡ min x.born last_volume
 
 abbrev pub IsStartOf : Option Passage → List ℕ × ℕ → Type 0
 IsStartOf None start = (start.0 ≡ []) × (start.1 ≡ 0)

@@ -22,15 +22,16 @@ passages_of db c = passages_in (rows_of db version2) c
 abbrev pub was_passed : Database → ℕ → Key → Bool
 was_passed db c k = has_passed (passages_of db c) (reached_in (rows_of db received) c) k
 
--- one of a custodian's numbers was passed on
+-- there is a passage
 abbrev pub is_any : List PassageRow → Bool
 is_any [] = false
 is_any (p ∷ rows) = true
 
+-- one of a custodian's numbers was passed on
 abbrev pub any_passed : Database → ℕ → Bool
 any_passed db c = is_any (passages_of db c)
 
--- where the tables were asked whether one was, that is known
+-- what is known, if anything, of whether one of a custodian's numbers was passed on is so
 abbrev pub MayKnow : Option Bool → Database → ℕ → Type 0
 MayKnow known db c = (any : Bool) → known ≡ Some any → any ≡ any_passed db c
 

@@ -37,7 +37,7 @@ pub record OneJudged (old new : AtHand) : Type 0 where
   pub reached : new.reached ≡ old.reached + 1
   pub held : IfSome new.held (λ n. old.held ≡ Some (n + 1))
 
--- what is at hand of a custodian was something else, and of the others what it is
+-- what is at hand of a custodian, if anything, came of what was; what is at hand of others, was
 pub record Recounts (c : ℕ) (Becomes : AtHand → AtHand → Type 0) (old new : Remembered)
     : Type 0 where
   pub own : IfSome (get nat_cmp new c)

@@ -7,6 +7,7 @@ use Rattle.sqlite.specs.Order.{Row, column}
 use Rattle.sqlite_rules.specs.Lists.{Has}
 use Rattle.sqlite_trees.specs.Tree.{IsAscending}
 use Rattle.gaz_keeper.specs.Received.{Received}
+use Rattle.gaz_calls.specs.Answers.{most_rows}
 
 abbrev pub whole : ℕ → Value
 whole n = Int (pos n)
@@ -28,4 +29,4 @@ pub record TellsVolumes (files : Received) (c above : ℕ) (volumes : List ℕ) 
   pub rising : IsAscending (λ a b. a < b) volumes
   -- there is none only where none is left
   pub ends : volumes ≡ [] → (v : ℕ) → above < v → ¬ WasReceived files c v
-  pub few : length volumes ≤ 512
+  pub few : length volumes ≤ most_rows

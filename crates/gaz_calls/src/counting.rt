@@ -1,5 +1,5 @@
 //! How many volumes of a custodian are judged, and how many wait above them.
-ghost use Rattle.std.specs.Prelude.{◌≡◌, ◌≤◌, ◌<◌, nat_le, IfOk};
+ghost use Rattle.std.specs.Prelude.{◌≡◌, ◌+◌, ◌≤◌, ◌<◌, nat_le, IfOk};
 ghost use Rattle.gaz_keeper.specs.Board.{reached};
 ghost use Rattle.gaz_keeper.specs.Received.{count_above};
 ghost use Rattle.gaz_tables.specs.Receiveds.{FindsAbove};
@@ -100,7 +100,7 @@ impl<S: Alter> Tables<S> {
         ensures asks { AsksTables self.old self.new result
             (λ db b. (b.0 ≤ reached_in (rows_of db received) code)
             × (reached_in (rows_of db received) code < b.1)) }
-        ensures order { IfOk result (λ b. (b.0 < b.1) × (b.1 ≤ 1_000_000)) }
+        ensures order { IfOk result (λ b. (b.0 < b.1) × (b.1 ≤ LAST_VOLUME + 1)) }
     {
         let mut reached: u64 = 0;
         let mut next: u64 = 1;
@@ -119,7 +119,7 @@ impl<S: Alter> Tables<S> {
 
     // Whether a volume is judged.
     fn is_judged(&mut self, code: Code, volume: u64) -> Result<bool, ShelfFault>
-        requires { (1 ≤ volume) × (volume ≤ 999_999) }
+        requires { (1 ≤ volume) × (volume ≤ LAST_VOLUME) }
         ensures { AsksTables self.old self.new result
             (λ db b. b ≡ nat_le volume (reached_in (rows_of db received) code)) }
     {
@@ -152,7 +152,7 @@ impl<S: Alter> Tables<S> {
         volume: u64,
         most: u32,
     ) -> Result<Vec<Row>, ShelfFault>
-        requires { volume ≤ 999_999 }
+        requires { volume ≤ LAST_VOLUME }
         ensures { AsksTables self.old self.new result
             (λ db rows. FindsAbove code volume most (rows_of db received) rows.items) }
     {

@@ -60,8 +60,8 @@ impl<S: Alter> Tables<S> {
         self.told(found)
     }
 
-    /// The newest row of a key, where it has one.
-    pub fn newest(&mut self, code: Code, key: &Key) -> Result<Option<Life>, ShelfFault>
+    // The newest row of a key, where it has one.
+    fn newest(&mut self, code: Code, key: &Key) -> Result<Option<Life>, ShelfFault>
         ensures { AsksTables self.old self.new result
             (λ db life. IsNewest (histories_in (rows_of db version2) code) key.now life) }
     {
@@ -76,8 +76,8 @@ impl<S: Alter> Tables<S> {
         }
     }
 
-    /// The newest row of a key that was born in a volume or before, where it has one.
-    pub fn newest_until(
+    // The newest row of a key that was born in a volume or before, where it has one.
+    fn newest_until(
         &mut self,
         code: Code,
         volume: u32,

@@ -8,7 +8,7 @@ ghost use Rattle.gaz_kept.specs.Versions.{cells_in, item_in};
 ghost use Rattle.gaz_calls.specs.Lives.{AreEntries, IsLifePage, SayLives};
 ghost use Rattle.gaz_calls.specs.Lives.{gone_in, is_items, life_in};
 
-use gaz_cells::{Bodies, CellFault, Links, Row as Cells};
+use gaz_cells::{Bodies, CUSTODY, CellFault, Links, Row as Cells};
 use gaz_ids::Code;
 use gaz_kept::decoding::{RowFault, body_lines, number, text};
 use gaz_kept::newest::NEVER;
@@ -20,9 +20,6 @@ use std::alloc::Global;
 
 // The column of the body.
 const BODY: usize = 10;
-
-// The kind of a row that says what became of a number.
-const CUSTODY: u64 = 92;
 
 /// What is told of the rows of a page.
 pub(crate) enum LifePage {
@@ -139,7 +136,7 @@ fn life_in(alloc: Global, bodies: &mut Bodies<'_>, row: &Row) -> Result<Life, Ro
     })
 }
 
-// Whether a row is an item's, and not one of kind 92.
+// Whether a row is an item's, and doesn't say what became of a number.
 fn is_items(row: &Row) -> Result<bool, RowFault>
     ensures { IfOk result (λ b. b ≡ is_items row.now) }
 {

@@ -8,14 +8,11 @@ ghost use Rattle.gaz_calls.specs.Asking.{AsksTables};
 ghost use Rattle.gaz_calls.specs.Lives.{AreEntries, IsRowBehind, TellsLives, TellsPage};
 
 use crate::life_rows::{LifePage, page_told};
-use crate::tables::Tables;
+use crate::tables::{MOST, Tables};
 use gaz_keeper::ShelfFault;
 use gaz_loaded::Life;
 use gaz_tables::rowids;
 use sqlite::{Alter, Row};
-
-// The most rows of one answer.
-const MOST: u32 = 512;
 
 impl<S: Alter> Tables<S> {
     // The rows, by rising rowids: the first so many.
@@ -67,7 +64,8 @@ impl<S: Alter> Tables<S> {
     }
 
     /// What the rows of items behind a rowid say, or those from the first, by rising rowids: at
-    /// most 512. Rows of kind 92 are passed over, also where there is nothing else on a page.
+    /// most `MOST`. Rows of what became of numbers are passed over, also where there is nothing else
+    /// on a page.
     pub fn lives_behind(&mut self, after: Option<i64>) -> Result<Vec<Life>, ShelfFault>
         ensures asks { AsksTables self.old self.new result
             (λ db lives. TellsLives after lives.items (rows_of db version2)) }

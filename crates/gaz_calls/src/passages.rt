@@ -12,7 +12,7 @@ ghost use Rattle.gaz_calls.specs.Asking.{AsksTables};
 ghost use Rattle.gaz_calls.specs.Passages.{IsStartOf, SayPassages};
 ghost use Rattle.gaz_calls.specs.Passing.{any_passed, passages_of};
 
-use crate::tables::Tables;
+use crate::tables::{MOST, Tables};
 use gaz_ids::{Code, LAST_VOLUME, Uprn};
 use gaz_keeper::ShelfFault;
 use gaz_kept::decoding::{RowFault, key_in, name_of};
@@ -22,9 +22,6 @@ use gaz_records::{Key, Kind};
 use gaz_tables::custody;
 use sqlite::{Alter, Row};
 use std::alloc::Global;
-
-// The most rows of one answer.
-const MOST: u32 = 512;
 
 // Which number a row names.
 fn uprn_in(row: &Row) -> Result<Uprn, RowFault>
@@ -91,7 +88,7 @@ impl<S: Alter> Tables<S> {
     }
 
     /// What became of a custodian's numbers behind what was told of one, or from the first, as
-    /// numbers rise and for each as volumes do: at most 512.
+    /// numbers rise and for each as volumes do: at most `MOST`.
     pub fn passages_behind(
         &mut self,
         code: Code,

@@ -9,15 +9,13 @@ ghost use Rattle.gaz_calls.specs.Paging.{says_lang};
 ghost use Rattle.gaz_calls.specs.Streets.{Decides, IsIdOf, IsStepOf};
 ghost use Rattle.gaz_calls.specs.Streets.{leaves, names_left, says_left};
 
+use crate::tables::MOST;
 use gaz_ids::Lang;
 use gaz_kept::decoding::{RowFault, key_in, number, text};
 use gaz_overlay::Overlay;
 use gaz_records::Kind;
 use sqlite::Row;
 use std::alloc::Global;
-
-/// How many rows of a street, or of what names a BLPU, are read at a time.
-pub(crate) const PAGE: u32 = 512;
 
 /// What a page of a street tells.
 pub(crate) enum Step {
@@ -100,20 +98,20 @@ fn last_id(alloc: Global, rows: &[Row]) -> Result<String, RowFault>
     }
 }
 
-// What is told where this was found on a page of at most `PAGE` rows.
+// What is told where this was found on a page of at most `MOST` rows.
 fn step_of(alloc: Global, rows: &[Row], found: bool) -> Result<Step, RowFault>
-    ensures { IfOk result (λ step. Decides PAGE rows.now found step) }
+    ensures { IfOk result (λ step. Decides MOST rows.now found step) }
 {
     if found {
         return Ok(Step::Told(true));
     }
-    if rows.len() < PAGE as usize {
+    if rows.len() < MOST as usize {
         return Ok(Step::Told(false));
     }
     Ok(Step::Behind(last_id(alloc, rows)?))
 }
 
-/// What a page of a street tells, of at most `PAGE` rows.
+/// What a page of a street tells, of at most `MOST` rows.
 pub(crate) fn street_told(
     alloc: Global,
     rows: &[Row],
@@ -121,13 +119,13 @@ pub(crate) fn street_told(
     passed: Option<&Overlay>,
 ) -> Result<Step, RowFault>
     ensures { IfOk result
-        (IsStepOf PAGE rows.now (says_left lang (option_map (λ c. c.now) passed.entry))) }
+        (IsStepOf MOST rows.now (says_left lang (option_map (λ c. c.now) passed.entry))) }
 {
     let found = any_says(rows, lang, passed)?;
     step_of(alloc, rows, found)
 }
 
-/// What a page of what names a BLPU tells, of one kind and of at most `PAGE` rows.
+/// What a page of what names a BLPU tells, of one kind and of at most `MOST` rows.
 pub(crate) fn parts_told(
     alloc: Global,
     rows: &[Row],
@@ -135,7 +133,7 @@ pub(crate) fn parts_told(
     passed: Option<&Overlay>,
 ) -> Result<Step, RowFault>
     ensures { IfOk result
-        (IsStepOf PAGE rows.now (names_left kind (option_map (λ c. c.now) passed.entry))) }
+        (IsStepOf MOST rows.now (names_left kind (option_map (λ c. c.now) passed.entry))) }
 {
     let found = any_names(rows, kind, passed)?;
     step_of(alloc, rows, found)

@@ -10,8 +10,8 @@ ghost use Rattle.gaz_kept.specs.LastViews.{last_in};
 ghost use Rattle.gaz_calls.specs.Asking.{AsksTables};
 ghost use Rattle.gaz_calls.specs.Streets.{IsStep, is_left_on, is_left_part, is_left_tied};
 
-use crate::steps::{PAGE, Step, parts_told, street_told};
-use crate::tables::Tables;
+use crate::steps::{Step, parts_told, street_told};
+use crate::tables::{MOST, Tables};
 use gaz_ids::{Code, Lang, Uprn, Usrn};
 use gaz_keeper::ShelfFault;
 use gaz_overlay::Overlay;
@@ -76,7 +76,7 @@ impl<S: Alter> Tables<S> {
         ensures { AsksTables self.old self.new result (λ db step. IsStep (is_left_on usrn lang
             (option_map (λ c. c.now) passed.entry)) (last_in db code) start.now step) }
     {
-        let rows = self.street_rows(code, usrn, start, PAGE)?;
+        let rows = self.street_rows(code, usrn, start, MOST)?;
         match street_told(self.alloc, &rows, lang, passed) {
             Ok(step) => Ok(step),
             Err(fault) => Err(self.row_fault(fault)),
@@ -134,7 +134,7 @@ impl<S: Alter> Tables<S> {
         ensures { AsksTables self.old self.new result (λ db step. IsStep (is_left_part kind uprn
             (option_map (λ c. c.now) passed.entry)) (last_in db code) start.now step) }
     {
-        let rows = self.part_rows(code, kind, uprn, start, PAGE)?;
+        let rows = self.part_rows(code, kind, uprn, start, MOST)?;
         match parts_told(self.alloc, &rows, kind, passed) {
             Ok(step) => Ok(step),
             Err(fault) => Err(self.row_fault(fault)),

@@ -8,15 +8,12 @@ ghost use Rattle.gaz_kept.specs.Files.{files_in};
 ghost use Rattle.gaz_calls.specs.Asking.{AsksTables};
 ghost use Rattle.gaz_calls.specs.Volumes.{SayVolumes, TellsVolumes};
 
-use crate::tables::Tables;
+use crate::tables::{MOST, Tables};
 use gaz_ids::{Code, LAST_VOLUME, Volume};
 use gaz_keeper::ShelfFault;
 use gaz_kept::decoding::{RowFault, number};
 use sqlite::{Alter, Row};
 use std::alloc::Global;
-
-// The most volumes of one answer.
-const MOST: u32 = 512;
 
 // The volume that a row says.
 fn volume_in(row: &Row) -> Result<Volume, RowFault>
@@ -43,7 +40,7 @@ fn volumes_in(alloc: Global, rows: &[Row]) -> Result<Vec<Volume>, RowFault>
 }
 
 impl<S: Alter> Tables<S> {
-    /// The received volumes of a custodian above one, rising: at most 512.
+    /// The received volumes of a custodian above one, rising: at most `MOST`.
     pub fn volumes_above(&mut self, code: Code, volume: u64) -> Result<Vec<Volume>, ShelfFault>
         ensures { AsksTables self.old self.new result (λ db volumes.
             TellsVolumes (files_in (rows_of db received)) code volume volumes.items) }

@@ -1,6 +1,7 @@
 -- The columns in which tables keep what became of a number that passes between custodians.
 use Rattle.std.specs.Prelude.{◌≡◌, ℕ, ◌==◌, ◌&&◌, Bool, true, [], Option, Some, None}
 use Rattle.std.specs.Prelude.{if◌then◌else◌, length, option_map}
+use Rattle.gaz_ids.specs.Limits.{last_code, last_hop}
 use Rattle.gaz_ids.specs.Numbers.{in_range, of_id}
 use Rattle.gaz_records.specs.Blpus.{is_uprn}
 use Rattle.gaz_records.specs.declared.key.Key.TheVariants as key
@@ -43,7 +44,8 @@ custody_cells uprn custody = record {
 
 -- its code and its hop are such
 abbrev pub is_custody : Custody → Bool
-is_custody custody = in_range 1 9999 (other_in custody) && in_range 1 9999 (hop_in custody)
+is_custody custody =
+    in_range 1 last_code (other_in custody) && in_range 1 last_hop (hop_in custody)
 
 -- ---- what cells say
 
@@ -60,7 +62,9 @@ custody_told live (Some other) None = None
 custody_told live (Some other) (Some hop) = custody_by live other hop
 
 abbrev pub told_in : CustodyValue → Option Custody
-told_in c = custody_told c.cells.links.live (of_id 1 9999 c.cells.links.street) (of_id 1 9999 c.hop)
+told_in c =
+    custody_told c.cells.links.live (of_id 1 last_code c.cells.links.street)
+    (of_id 1 last_hop c.hop)
 
 -- the number that the id names, where it is that of the property
 abbrev pub number_told : CustodyValue → Option ℕ → Option (ℕ × Custody)

@@ -3,6 +3,7 @@ use Rattle.std.specs.Prelude.{ℕ, ◌==◌, Bool, List, ◌++◌, length, take,
 use Rattle.std.specs.Prelude.{Option, Some, None, option_map, if◌then◌else◌}
 use Rattle.std.specs.Result.{result_ok}
 use Rattle.gaz_ids.specs.Codes.{lang_of, lang_text}
+use Rattle.gaz_ids.specs.Limits.{last_uprn, last_usrn}
 use Rattle.gaz_ids.specs.Numbers.{read_id}
 use Rattle.gaz_ids.specs.declared.lang.Lang.{Lang}
 use Rattle.gaz_records.specs.Blpus.{is_uprn}
@@ -46,10 +47,10 @@ number_in_full width high text =
     if length text == width then result_ok (read_id width 1 high text) else None
 
 abbrev pub usrn_in : List ℕ → Option ℕ
-usrn_in text = number_in_full 8 99_999_999 text
+usrn_in text = number_in_full 8 last_usrn text
 
 abbrev pub uprn_in : List ℕ → Option ℕ
-uprn_in text = number_in_full 12 999_999_999_999 text
+uprn_in text = number_in_full 12 last_uprn text
 
 -- a street's name in a language, where there are both
 abbrev pub name_of : Option ℕ → Option Lang → Option Key

@@ -41,12 +41,12 @@ impl Model for Links {
 /// The columns of an item.
 #[derive(Drop)]
 pub struct Cells {
-    /// The record identifier of the kind: 11, 15, 21, 23 or 24.
+    /// The record identifier of the kind, as `Kind::number` gives it; `CUSTODY` in `CustodyCells`.
     pub kind: u64,
     /// The text that names the key.
     pub id: Vec<u8>,
     pub links: Links,
-    /// The item's row as `csv` writes it, without a line end.
+    /// The item's row as `csv` writes it, without a line end; empty in `CustodyCells`.
     pub body: Vec<u8>,
 }
 
@@ -84,7 +84,7 @@ fn live_number(status: Status) -> u8
 }
 
 /// The numbers by which an item is looked for.
-pub fn links_of(item: &Item) -> Links
+pub(crate) fn links_of(item: &Item) -> Links
     ensures { result ≡ links_of item.now }
 {
     match item {

@@ -1,5 +1,6 @@
 //! The columns of what became of a number.
 ghost use Rattle.std.specs.Prelude.{◌≡◌, IfOk};
+ghost use Rattle.gaz_ids.specs.Limits.{last_code, last_hop};
 ghost use Rattle.gaz_ids.specs.Numbers.{of_id};
 ghost use Rattle.gaz_cells.specs.Custody.{custody_by, custody_cells, custody_told};
 
@@ -11,13 +12,14 @@ use gaz_views::Custody;
 use std::alloc::{AllocError, Global};
 use std::marker::Model;
 
-// The kind of a row that says what became of a number.
-const CUSTODY: u64 = 92;
+/// The kind of a row that says what became of a number.
+pub const CUSTODY: u64 = 92;
 
 /// The columns of what became of a number.
 #[derive(Drop)]
 pub struct CustodyCells {
-    /// Of kind 92, the number's; `street` is the other custodian's code, and the body is empty.
+    /// Of the kind `CUSTODY`, the number's; `street` is the other custodian's code, and the body is
+    /// empty.
     pub cells: Cells,
     /// How often the number had passed on.
     pub hop: u64,
@@ -48,7 +50,7 @@ fn custody_by(live: u64, other: Code, hop: Hop) -> Option<Custody>
 /// taken, the other custodian's code, and how often it had passed on, both 1 to 9,999. None where
 /// they are no such numbers.
 pub fn custody_told(live: u64, other: u64, hop: u64) -> Option<Custody>
-    ensures { result ≡ custody_told live (of_id 1 9999 other) (of_id 1 9999 hop) }
+    ensures { result ≡ custody_told live (of_id 1 last_code other) (of_id 1 last_hop hop) }
 {
     let other = Code::of(other)?;
     let hop = Hop::of(hop)?;

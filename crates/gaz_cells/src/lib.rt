@@ -11,8 +11,8 @@ pub mod laws;
 mod reading;
 
 pub use bodies::Bodies;
-pub use cells::{Cells, Links, links_of};
-pub use custody::{CustodyCells, custody_told};
+pub use cells::{Cells, Links};
+pub use custody::{CUSTODY, CustodyCells, custody_told};
 pub use fault::CellFault;
 pub use id::{id_of, key_named};
-pub use reading::{Row, kind_numbered};
+pub use reading::Row;

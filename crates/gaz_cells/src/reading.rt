@@ -39,7 +39,7 @@ impl<'a> Model for Row<'a> {
 }
 
 /// The kind of entries with this record identifier, or none.
-pub fn kind_numbered(number: u64) -> Option<Kind>
+pub(crate) fn kind_numbered(number: u64) -> Option<Kind>
     ensures { result ≡ kind_numbered number }
 {
     if number == 11 {
@@ -136,7 +136,7 @@ impl<'a> Row<'a> {
 
     #[tactic(auto, unfolding(crate::specs::Reading::read_cells))]
     /// The item that the cells say, or the first cell that disagrees; `Memory` may come instead.
-    pub fn item(&self, alloc: Global) -> Result<Item, CellFault>
+    pub(crate) fn item(&self, alloc: Global) -> Result<Item, CellFault>
         ensures { OrMemory result (read_cells self.now) }
     {
         let Some(kind) = kind_numbered(self.kind) else {

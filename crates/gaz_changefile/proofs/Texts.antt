@@ -20,7 +20,7 @@ use Rattle.gaz_addressable.specs.Texts.{char_count, is_plain, is_text}
 use Rattle.gaz_addressable.proofs.Characters.{plain_utf8}
 use Rattle.gaz_records.specs.Adopts.{adopt_texts, is_adopt}
 use Rattle.gaz_records.specs.Blpus.{BlpuValue, blpu_texts, is_blpu, is_parent, parent_text}
-use Rattle.gaz_records.specs.Days.{CivilDay, are_days, date_text, end_text, is_day, two}
+use Rattle.gaz_records.specs.Days.{CivilDay, is_day_or_none, date_text, end_text, is_day, two}
 use Rattle.gaz_records.specs.Descriptors.{DescriptorValue, descriptor_texts, is_descriptor}
 use Rattle.gaz_records.specs.Items.{is_item, item_texts}
 use Rattle.gaz_records.specs.Labels.{are_label_bytes, is_label, is_label_byte}
@@ -60,7 +60,7 @@ date_utf8 d h =
     let month : AllLow (two d.month ++ (45 ∷ two d.day)) = (omega arith, (omega arith, (lit< tt, day))) in
     IsUtf8-from_ascii (date_text d) (low_ascii (date_text d) (omega arith, (omega arith, (omega arith, (omega arith, (lit< tt, month))))))
 
-end_utf8 : (d : Option CivilDay) → are_days d ≡ true → IsUtf8 (end_text d)
+end_utf8 : (d : Option CivilDay) → is_day_or_none d ≡ true → IsUtf8 (end_text d)
 end_utf8 None h = IsUtf8-nil
 end_utf8 (Some d) h = date_utf8 d h
 
@@ -139,7 +139,7 @@ street_are x h =
     let h2 = and-left _ _ h1 in
     let h3 = and-left _ _ h2 in (
       up_to 1 99_999_999 x.usrn (lit< tt) (and-left _ _ h3),
-      (up_to 1 4 x.sort (lit< tt) (and-right _ _ h3), (date_utf8 x.start (and-right _ _ h2), (end_utf8 x.end (and-right _ _ h1), tt))),
+      (up_to 1 4 x.street_type (lit< tt) (and-right _ _ h3), (date_utf8 x.start (and-right _ _ h2), (end_utf8 x.end (and-right _ _ h1), tt))),
     )
 
 descriptor_are : (x : DescriptorValue) → is_descriptor x ≡ true → AreTexts (descriptor_texts x)

@@ -2,7 +2,7 @@
 use Rattle.std.specs.Prelude.{◌≡◌, ◌≢◌, ◌≤◌, ℕ, ◌+◌, List, length, map, true}
 use Rattle.std.specs.List.{All, range_with_len}
 use Rattle.std.specs.List.Sorted.{IsStrictlyIncreasing}
-use Rattle.gaz_ids.specs.Limits.{last_volume, most_bases, most_changes}
+use Rattle.gaz_ids.specs.Limits.{last_code, last_volume, most_bases, most_changes}
 use Rattle.gaz_records.specs.Days.{is_day}
 use Rattle.gaz_records.specs.Items.{is_item}
 use Rattle.gaz_changefile.specs.Contents.{Contents}
@@ -24,7 +24,7 @@ pub record ArePlaced (bases : List Basis) (changes : List Change) : Type 0 where
 -- a code and a volume
 pub record IsBasis (b : Basis) : Type 0 where
   pub code_from : 1 ≤ b.custodian
-  pub code_to : b.custodian ≤ 9999
+  pub code_to : b.custodian ≤ last_code
   pub volume_from : 1 ≤ b.volume
   pub volume_to : b.volume ≤ last_volume
 

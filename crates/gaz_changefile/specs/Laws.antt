@@ -3,7 +3,7 @@ use Rattle.std.specs.Prelude.{◌≡◌, ◌≢◌, ◌⊎◌, ◌≤◌, ◌<�
 use Rattle.std.specs.Prelude.{Bool, true, false, Some, codes, slice_get}
 use Rattle.std.specs.List.{All}
 use Rattle.std.specs.Str.{IsUtf8}
-use Rattle.gaz_ids.specs.Limits.{last_volume}
+use Rattle.gaz_ids.specs.Limits.{last_code, last_volume}
 use Rattle.gaz_rows.specs.Rows.{Fields, rows_of}
 use Rattle.gaz_records.specs.Items.{is_entry}
 use Rattle.gaz_changefile.specs.Allowed.{AreAllowed}
@@ -95,6 +95,6 @@ EntriesAlone = (rows : List Fields) → profile_named rows ≢ 2 → HoldEntries
 -- what is written of an orderly file of a custodian and volume says that file
 abbrev pub FilesReadBack : Type 0
 FilesReadBack =
-    (c v : ℕ) (f : Contents) → 1 ≤ c → c ≤ 9999 → 1 ≤ v → v ≤ last_volume
+    (c v : ℕ) (f : Contents) → 1 ≤ c → c ≤ last_code → 1 ≤ v → v ≤ last_volume
     → IsTyped f → AreBases c f.bases → ArePlaced f.bases f.changes → AreAllowed c f.changes
     → reading (file_text c v f) c v ≡ Good f

@@ -31,7 +31,7 @@ street_101 = record {
     action = Insert;
     item = item.Street (record {
       usrn = 101;
-      sort = 1;
+      street_type = 1;
       start = record { year = 2001; month = 4; day = 1 };
       end = None;
     });

@@ -47,7 +47,8 @@ fn ask<K: Inbox + Drop>(hub: &mut Hub<K>, question: Question) -> Said
     Said::told(hub.ask(question))
 }
 
-/// Says how far a custodian's files are judged.
+/// Says how far a custodian's files are judged; that the custodian isn't known where the code
+/// doesn't read.
 pub fn status<K: Inbox + Drop>(hub: &mut Hub<K>, code: &str) -> Said
     requires idle { IsNotJudging K.seen hub.old.keeper }
     ensures obeys { Obeys K.seen (asks_standing code.now) hub.old hub.new result }
@@ -60,7 +61,7 @@ pub fn status<K: Inbox + Drop>(hub: &mut Hub<K>, code: &str) -> Said
     ask(hub, Question::Stand { code })
 }
 
-/// Says the address line of a property.
+/// Says the address line of a property; nothing where the UPRN doesn't read.
 pub fn line<K: Inbox + Drop>(hub: &mut Hub<K>, uprn: &str) -> Said
     requires idle { IsNotJudging K.seen hub.old.keeper }
     ensures obeys { Obeys K.seen (asks_address uprn.now) hub.old hub.new result }
@@ -72,7 +73,8 @@ pub fn line<K: Inbox + Drop>(hub: &mut Hub<K>, uprn: &str) -> Said
     ask(hub, Question::LookUp { uprn })
 }
 
-/// Says a custodian's view after a volume, as the text of an extract.
+/// Says a custodian's view after a volume, as the text of an extract; that the custodian isn't
+/// known where the code doesn't read, then that the volume isn't one where that doesn't.
 pub fn extract<K: Inbox + Drop>(hub: &mut Hub<K>, code: &str, volume: &str) -> Said
     requires idle { IsNotJudging K.seen hub.old.keeper }
     ensures obeys { Obeys K.seen (asks_extract code.now volume.now) hub.old hub.new result }

@@ -12,7 +12,7 @@ use gaz_hub::{Answer, DoorRefusal, ExtractText, Refusal, Told};
 pub enum CommandFault {
     /// The change file can't be read.
     Unreadable,
-    /// Nothing was received.
+    /// The file wasn't received by it, or the question wasn't answered: memory or the store failed.
     NotReceived,
     /// The file was received, and not all that is ready was judged or told.
     ReceivedUnsettled,

@@ -8,12 +8,12 @@ use Rattle.gaz_hub.specs.Answers.{AllAnswered}
 use Rattle.gaz_hub.specs.Hubs.{Runs, StandsFor, state_of}
 use Rattle.gaz_hub.specs.Step.{Command, Door, Response}
 use Rattle.gaz_hub.proofs.Answers.{every_answer_holds}
+use Rattle.gaz_http.specs.declared.supply.Cause.TheVariants.{WriteFault}
 use Rattle.gaz_exchange.specs.declared.conversation.Served.{Served}
 use Rattle.gaz_exchange.specs.declared.conversation.Stopped.{Stopped}
 use Rattle.gaz_exchange.specs.Conversing.{CountedConversation, SomeAnswered, replied}
 use Rattle.gaz_exchange.specs.Ends.{AnswersAll, ComesTo, EndsAs, EndsByReply, FinishesAs, Passed, ended_after}
 use Rattle.gaz_exchange.specs.Exchanges.{Exchange}
-use Rattle.gaz_exchange.specs.declared.supply.Cause.TheVariants.{WriteFault}
 use Rattle.gaz_exchange.specs.declared.conversation.Ended.{Ended}
 use Rattle.gaz_exchange.specs.declared.conversation.Ended.TheVariants as ended
 

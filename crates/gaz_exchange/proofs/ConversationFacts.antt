@@ -10,17 +10,17 @@ use Rattle.gaz_keeper.specs.Keeper.{Seen}
 use Rattle.gaz_hub.specs.Hubs.{Runs}
 use Rattle.gaz_hub.specs.Step.{Door}
 use Rattle.gaz_hub.proofs.HubRuns.{runs_none, runs_still, runs_then}
+use Rattle.gaz_http.specs.Headers.{is_closing}
+use Rattle.gaz_http.specs.Sparing.{OneForEach, OneForEachUsed}
+use Rattle.gaz_http.specs.declared.supply.Cause.{Cause}
+use Rattle.gaz_http.specs.declared.supply.Cause.TheVariants.{ReadFault, WriteFault}
 use Rattle.gaz_exchange.specs.Ends.{EndsAs, EndsByReply, StopsAs, StopsWaiting, ended_after}
 use Rattle.gaz_exchange.specs.Exchanges.{Comes, Exchange, HearsDoor, all_open, command_in, commands_of, ends_after, goes_on, replies, responses_of}
-use Rattle.gaz_exchange.specs.Framing.{is_closing}
-use Rattle.gaz_exchange.specs.Sparing.{OneForEach, OneForEachUsed}
 use Rattle.gaz_exchange.specs.Turns.{Exchanges, IsTurn, Rests, TurnsAway, Waits}
-use Rattle.gaz_exchange.specs.declared.supply.Cause.{Cause}
-use Rattle.gaz_exchange.specs.declared.supply.Cause.TheVariants.{ReadFault, WriteFault}
 use Rattle.gaz_exchange.specs.declared.conversation.Ended.TheVariants as ended
-use Rattle.gaz_exchange.specs.declared.conversation.Turn.{Turn}
-use Rattle.gaz_exchange.specs.declared.conversation.Turn.TheVariants.{Answered, Closed, Over}
-use Rattle.gaz_exchange.specs.declared.conversation.Turn.TheVariants as turn
+use Rattle.gaz_exchange.specs.declared.turn.Turn.{Turn}
+use Rattle.gaz_exchange.specs.declared.turn.Turn.TheVariants.{Answered, Closed, Over}
+use Rattle.gaz_exchange.specs.declared.turn.Turn.TheVariants as turn
 use Rattle.gaz_exchange.proofs.EndLaws.{ends_all}
 use Rattle.gaz_exchange.proofs.RoutesKept.{AreFoundBy, found_by_more, found_by_none}
 use Rattle.gaz_exchange.proofs.ExchangeFacts.{both, both_are, comes_more, comes_none, comes_read, goes_on-more, replies-more}

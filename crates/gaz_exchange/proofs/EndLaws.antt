@@ -1,11 +1,10 @@
 -- A conversation that ended answered all requests of its stream.
-use Rattle.std.proofs.Common.{◌≡◌, ℕ, ◌<◌, Bool, true, false, List, [], ◌∷◌, ◌++◌, length, Option, ◌⊎◌, inl, inr, refl, ap, sym, ◌∙◌, arith, append-nil, length-append}
-use Rattle.std.specs.Prelude.{◌&&◌}
-use Rattle.httparse.specs.Grammar.{RequestHead, print_blank, print_request}
-use Rattle.httparse.proofs.GrammarLemmas.{print_request-append, request_unique}
+use Rattle.std.proofs.Common.{◌≡◌, ℕ, ◌<◌, true, false, List, [], ◌++◌, length, Option, ◌⊎◌, inl, inr, ap, sym, ◌∙◌, arith, append-nil, length-append}
+use Rattle.httparse.proofs.GrammarLemmas.{request_unique}
+use Rattle.gaz_http.specs.Heads.{IsOver, is_blank}
+use Rattle.gaz_http.proofs.HeadFacts.{head_inside}
 use Rattle.gaz_exchange.specs.Ends.{EndsAs, EndsByReply, Passed}
 use Rattle.gaz_exchange.specs.Framing.{length_of}
-use Rattle.gaz_exchange.specs.Heads.{IsOver, is_blank, is_line_byte}
 use Rattle.gaz_exchange.specs.Refusals.{HasBadLength, HasHead, IsRefused, no_head, cut_head, bad_length, cut_body, no_memory}
 use Rattle.gaz_exchange.specs.Streams.{AreAll, NoRequest}
 use Rattle.gaz_exchange.specs.declared.conversation.Ended.{Ended}
@@ -13,19 +12,6 @@ use Rattle.gaz_exchange.specs.declared.conversation.Ended.TheVariants as ended
 use Rattle.gaz_exchange.specs.declared.fault.Fault.{Fault}
 use Rattle.gaz_exchange.specs.declared.fault.Fault.TheVariants.{NotReceived}
 use Rattle.gaz_exchange.specs.declared.framing.Framing.TheVariants.{Length, Refused}
-
-and_false : (b : Bool) → (b && false) ≡ false
-and_false true = refl
-and_false false = refl
-
--- the space behind a method is no byte of a line's end
-space_inside : (a b rest : List ℕ) → is_blank (a ++ (b ++ (32 ∷ rest))) ≡ false
-space_inside [] [] rest = refl
-space_inside [] (x ∷ b) rest = ap (λ t. is_line_byte x && t) (space_inside [] b rest) ∙ and_false (is_line_byte x)
-space_inside (x ∷ a) b rest = ap (λ t. is_line_byte x && t) (space_inside a b rest) ∙ and_false (is_line_byte x)
-
-pub head_inside : (h : RequestHead) (rest : List ℕ) → is_blank (print_request h ++ rest) ≡ false
-head_inside h rest = ap is_blank (print_request-append h rest) ∙ space_inside (print_blank h.blank) h.method _
 
 none_over : (bytes : List ℕ) → IsOver bytes → NoRequest bytes
 none_over bytes over h body rest b =

@@ -6,10 +6,10 @@ use Rattle.std.proofs.lemmas.Bool.Decides.{nat_tests}
 use Rattle.std.proofs.lemmas.List.Folds.{list_all-append}
 use Rattle.gaz_hub.specs.Hubs.{IsToldAtDoor}
 use Rattle.gaz_hub.specs.Step.{Command, Door, Response}
+use Rattle.gaz_http.specs.Headers.{is_closing}
+use Rattle.gaz_http.proofs.HeadFacts.{begins_more}
 use Rattle.gaz_exchange.specs.Asking.{asked}
 use Rattle.gaz_exchange.specs.Exchanges.{BeginsWithRequest, Comes, Exchange, HearsDoor, IsExchanged, all_open, ends_after, goes_on, replies}
-use Rattle.gaz_exchange.specs.Framing.{is_closing}
-use Rattle.gaz_exchange.proofs.IncomingFacts.{begins_more}
 
 request_more : (bytes : List ℕ) (e : Exchange) (rest more : List ℕ) → BeginsWithRequest bytes e.head e.body rest → BeginsWithRequest (bytes ++ more) e.head e.body (rest ++ more)
 request_more bytes e rest more b = record {

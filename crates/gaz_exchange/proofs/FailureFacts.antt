@@ -1,16 +1,16 @@
 -- What failed.
 use Rattle.std.proofs.Common.{◌≡◌, Bool, true, false, Ok, Err, refl}
 use Rattle.std.specs.Prelude.{ℕ, Result, OnErr}
+use Rattle.gaz_http.specs.Failing.{FailedInto, HasFailed, NeverFails, WriterFailed}
+use Rattle.gaz_http.specs.declared.supply.Cause.{Cause}
+use Rattle.gaz_http.specs.declared.supply.Cause.TheVariants.{ReadFault, WriteFault}
 use Rattle.gaz_exchange.specs.Conversing.{NeverStops, StopsByFault}
 use Rattle.gaz_exchange.specs.Ends.{FinishesAs}
-use Rattle.gaz_exchange.specs.Failing.{FailedInto, HasFailed, NeverFails, WriterFailed}
 use Rattle.gaz_exchange.specs.Turns.{IfStopped, turn_of}
-use Rattle.gaz_exchange.specs.declared.supply.Cause.{Cause}
-use Rattle.gaz_exchange.specs.declared.supply.Cause.TheVariants.{ReadFault, WriteFault}
 use Rattle.gaz_exchange.specs.declared.conversation.Served.{Served}
 use Rattle.gaz_exchange.specs.declared.conversation.Stopped.{Stopped as HowStopped}
-use Rattle.gaz_exchange.specs.declared.conversation.Turn.{Turn}
-use Rattle.gaz_exchange.specs.declared.conversation.Turn.TheVariants.{Answered, Closed, Over, Stopped}
+use Rattle.gaz_exchange.specs.declared.turn.Turn.{Turn}
+use Rattle.gaz_exchange.specs.declared.turn.Turn.TheVariants.{Answered, Closed, Over, Stopped}
 
 -- the turn after a reply that wasn't wholly written
 pub stopped_writing : {W : Type 0} (failed : W → W → Type 0) (w : W) (ends whole : Bool) (turn : Turn) → turn ≡ turn_of ends whole → (whole ≡ false → FailedInto failed w)

@@ -1,12 +1,12 @@
 -- A request as it is read.
-use Rattle.std.proofs.Common.{◌≡◌, ℕ, Bool, true, false, List, ◌++◌, Option, ◌⊎◌, inl, inr, arith, ◌∙◌, sym, ap}
+use Rattle.std.proofs.Common.{◌≡◌, ℕ, Bool, List, Option, ◌⊎◌, inl, inr, ◌∙◌, sym, ap}
 use Rattle.std.specs.Io.KnownBytes.{IsAtEnd}
 use Rattle.httparse.specs.Grammar.{RequestHead}
-use Rattle.httparse.proofs.GrammarLemmas.{ReadsRequest-append}
+use Rattle.gaz_http.specs.Heads.{BeginsWith, NeverHead, NoHead}
+use Rattle.gaz_http.specs.Next.{IsMore}
+use Rattle.gaz_http.proofs.HeadFacts.{more_not_over}
 use Rattle.gaz_exchange.specs.Framing.{length_of}
-use Rattle.gaz_exchange.specs.Heads.{BeginsWith, IsOver, NeverHead, NoHead}
 use Rattle.gaz_exchange.specs.Incoming.{CantRead, IsBehind, IsIncoming, IsNeeded}
-use Rattle.gaz_exchange.specs.Next.{IsMore}
 use Rattle.gaz_exchange.specs.Refusals.{HasHead, IsRefused, no_head, cut_head, bad_length, cut_body, no_memory}
 use Rattle.gaz_exchange.specs.declared.fault.Fault.{Fault}
 use Rattle.gaz_exchange.specs.declared.fault.Fault.TheVariants.{BadRequest}
@@ -15,14 +15,6 @@ use Rattle.gaz_exchange.specs.declared.framing.Framing.TheVariants.{Length, Refu
 use Rattle.gaz_exchange.specs.declared.request.Incoming.{Incoming}
 use Rattle.gaz_exchange.specs.declared.request.Incoming.TheVariants as incoming
 use Rattle.gaz_exchange.specs.declared.request.Needed.{Needed}
-
--- more bytes come
-pub begins_more : (bytes : List ℕ) (h : RequestHead) (rest more : List ℕ) → BeginsWith bytes h rest → BeginsWith (bytes ++ more) h (rest ++ more)
-begins_more bytes h rest more b = record { reads = ReadsRequest-append bytes h rest more b.reads; short = b.short; few = b.few }
-
-pub more_not_over : (bytes : List ℕ) → IsMore bytes → IsOver bytes → ⊥
-more_not_over bytes (inl full) over = let e : true ≡ false = sym over.blank ∙ full in cc
-more_not_over bytes (inr long) over = omega (arith, over.short)
 
 pub bad_head : (bytes : List ℕ) (left : Option (List ℕ)) → (NeverHead bytes ⊎ (NoHead bytes × IsAtEnd left)) → IsMore bytes → IsRefused bytes left BadRequest
 bad_head bytes left (inl never) more = no_head never (more_not_over bytes more)

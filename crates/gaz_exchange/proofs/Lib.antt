@@ -1,8 +1,5 @@
-pub mod Bytes
-pub mod HeadFacts
 pub mod StreamFacts
 pub mod SparingFacts
-pub mod HeaderFacts
 pub mod IncomingFacts
 pub mod ExchangeFacts
 pub mod RoutesKept

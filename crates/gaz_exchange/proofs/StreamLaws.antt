@@ -4,8 +4,9 @@ use Rattle.std.specs.Prelude.{◌&&◌, ◌||◌, not, nat_lt, ◌==◌}
 use Rattle.std.proofs.lemmas.Bool.Decides.{nat_tests}
 use Rattle.httparse.specs.Grammar.{RequestHead}
 use Rattle.httparse.proofs.GrammarLemmas.{request_unique}
+use Rattle.gaz_http.specs.Headers.{is_closing}
 use Rattle.gaz_exchange.specs.Exchanges.{BeginsWithRequest, Comes, Exchange, all_open, ends_after, goes_on}
-use Rattle.gaz_exchange.specs.Framing.{is_closing, length_of}
+use Rattle.gaz_exchange.specs.Framing.{length_of}
 use Rattle.gaz_exchange.specs.Streams.{AreAll, BytesTellRequests, requests_of}
 use Rattle.gaz_exchange.specs.declared.framing.Framing.TheVariants.{Length}
 

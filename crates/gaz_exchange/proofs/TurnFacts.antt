@@ -6,21 +6,21 @@ use Rattle.httparse.specs.Grammar.{RequestHead}
 use Rattle.gaz_keeper.specs.Keeper.{Seen}
 use Rattle.gaz_hub.specs.Step.{Command, Door, Response}
 use Rattle.gaz_hub.proofs.HubRuns.{runs_none, runs_one}
+use Rattle.gaz_http.specs.Headers.{is_closing}
+use Rattle.gaz_http.specs.Heads.{IsOver}
+use Rattle.gaz_http.specs.Sparing.{OneForEach, OneForEachUsed}
+use Rattle.gaz_http.specs.declared.supply.Cause.{Cause}
+use Rattle.gaz_http.specs.declared.supply.Cause.TheVariants.{ReadFault, WriteFault}
 use Rattle.gaz_exchange.specs.Asking.{asked, call_at, command_of, method_of, with_body}
 use Rattle.gaz_exchange.specs.Conversing.{Transfer}
 use Rattle.gaz_exchange.specs.Exchanges.{BeginsWithRequest, Exchange, IsAnswered, IsReplyTo}
-use Rattle.gaz_exchange.specs.Framing.{is_closing}
-use Rattle.gaz_exchange.specs.Heads.{IsOver}
 use Rattle.gaz_exchange.specs.Incoming.{IsCall}
 use Rattle.gaz_exchange.specs.Refusals.{IsRefused, IsUnfinished}
 use Rattle.gaz_exchange.specs.Replies.{IsReplyText, reply_text, reply_to}
-use Rattle.gaz_exchange.specs.Sparing.{OneForEach, OneForEachUsed}
 use Rattle.gaz_exchange.specs.Targets.{target_of}
 use Rattle.gaz_exchange.specs.Turns.{Answers, Asks, Exchanges, IsTurn, Refuses, Rests, Stage, TurnsOut, Waits, turn_of}
-use Rattle.gaz_exchange.specs.declared.conversation.Turn.{Turn}
-use Rattle.gaz_exchange.specs.declared.conversation.Turn.TheVariants.{Over, Stopped}
-use Rattle.gaz_exchange.specs.declared.supply.Cause.{Cause}
-use Rattle.gaz_exchange.specs.declared.supply.Cause.TheVariants.{ReadFault, WriteFault}
+use Rattle.gaz_exchange.specs.declared.turn.Turn.{Turn}
+use Rattle.gaz_exchange.specs.declared.turn.Turn.TheVariants.{Over, Stopped}
 use Rattle.gaz_exchange.specs.declared.fault.Fault.{Fault}
 use Rattle.gaz_exchange.specs.declared.fault.Fault.TheVariants.{NotReceived}
 use Rattle.gaz_exchange.specs.declared.reply.Reply.{Reply}

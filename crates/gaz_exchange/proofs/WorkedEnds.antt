@@ -3,18 +3,19 @@ use Rattle.std.proofs.Common.{◌≡◌, ℕ, ◌+◌, true, false, List, [], �
 use Rattle.std.specs.Prelude.{take, drop}
 use Rattle.httparse.proofs.OnLiterals.{httparse_on_literals}
 use Rattle.httparse.proofs.GrammarLemmas.{request_unique}
+use Rattle.gaz_http.specs.Headers.{is_closing}
+use Rattle.gaz_http.specs.Heads.{IsOver, NoHead, is_blank}
+use Rattle.gaz_http.specs.declared.supply.Cause.TheVariants.{WriteFault}
+use Rattle.gaz_http.proofs.HeadFacts.{head_inside}
 use Rattle.gaz_exchange.specs.Ends.{AnswersAll, ComesTo, StopsAnswering}
 use Rattle.gaz_exchange.specs.Exchanges.{Exchange, replies}
-use Rattle.gaz_exchange.specs.Framing.{is_closing, length_of}
-use Rattle.gaz_exchange.specs.Heads.{IsOver, NoHead, is_blank}
+use Rattle.gaz_exchange.specs.Framing.{length_of}
 use Rattle.gaz_exchange.specs.Refusals.{HasHead, IsRefused, no_memory, bad_length}
 use Rattle.gaz_exchange.specs.WorkedStreams.{lost, lost_bytes}
-use Rattle.gaz_exchange.specs.WorkedEnds.{WorkedAll, WorkedEndings, WorkedEnds, WorkedReads, WorkedStops, answered, broken_off, served, stopped}
+use Rattle.gaz_exchange.specs.WorkedEnds.{WorkedAll, WorkedEndings, WorkedEnds, WorkedStops, answered, broken_off, served, stopped}
 use Rattle.gaz_exchange.specs.declared.conversation.Ended.TheVariants.{Most, Closed, InputEnd}
 use Rattle.gaz_exchange.specs.declared.fault.Fault.TheVariants.{NotReceived}
 use Rattle.gaz_exchange.specs.declared.framing.Framing.TheVariants.{Length, Refused}
-use Rattle.gaz_exchange.specs.declared.supply.Cause.TheVariants.{WriteFault}
-use Rattle.gaz_exchange.proofs.EndLaws.{head_inside}
 use Rattle.gaz_exchange.proofs.WorkedStreams.{lost_head, lost_request}
 
 -- the only exchange is the one in hand, where none is counted
@@ -126,15 +127,5 @@ all : WorkedAll
 unfolding is_closing httparse_on_literals
 all = record { last = inl (inl refl); not_one_left = one_left }
 
-reads : WorkedReads
-reads = record {
-  each = inl (omega arith);
-  one_more = inr (omega arith, tt);
-  not_one_more = λ one. elim one [ inl e ↦ omega (arith, e) | inr e ↦ absurd e.1 ];
-  not_two_more = λ two. elim two [ inl e ↦ omega (arith, e) | inr e ↦ omega (arith, e.0) ];
-  used = omega arith;
-  not_behind = λ e. omega (arith, e);
-}
-
 pub worked_ends_hold : WorkedEnds
-worked_ends_hold = record { endings = endings; stops = stops; all = all; reads = reads }
+worked_ends_hold = record { endings = endings; stops = stops; all = all }

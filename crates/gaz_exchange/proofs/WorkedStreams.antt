@@ -17,15 +17,17 @@ use Rattle.gaz_hub.specs.WorkedHubs.{upper_and_lower}
 use Rattle.gaz_hub.specs.declared.question.Question.TheVariants.{Ask}
 use Rattle.gaz_hub.specs.declared.refusal.DoorRefusal.TheVariants.{UnknownCustodian}
 use Rattle.gaz_hub.specs.declared.refusal.Refusal.TheVariants as refusal
+use Rattle.gaz_http.specs.Headers.{is_closing}
+use Rattle.gaz_http.specs.Heads.{BeginsWith}
+use Rattle.gaz_http.specs.WorkedClosings.{head, header}
 use Rattle.gaz_exchange.specs.Asking.{asked}
 use Rattle.gaz_exchange.specs.Exchanges.{BeginsWithRequest, Comes, Exchange, HearsDoor, IsExchanged, RoutesStay}
-use Rattle.gaz_exchange.specs.Framing.{is_closing, length_of}
-use Rattle.gaz_exchange.specs.Heads.{BeginsWith}
+use Rattle.gaz_exchange.specs.Framing.{length_of}
 use Rattle.gaz_exchange.specs.Refusals.{HasHead, cut_body}
 use Rattle.gaz_exchange.specs.Replies.{message, reply_text}
 use Rattle.gaz_exchange.specs.Streams.{NoRequest}
 use Rattle.gaz_exchange.specs.Targets.{target_of}
-use Rattle.gaz_exchange.specs.WorkedStreams.{WorkedClose, WorkedCut, WorkedDoor, WorkedStreams, WorkedThree, asked_for, asking_bytes, closing, closing_bytes, cut_bytes, head, header, lost, lost_bytes, posted, posting_bytes, turned_away}
+use Rattle.gaz_exchange.specs.WorkedStreams.{WorkedClose, WorkedCut, WorkedDoor, WorkedStreams, WorkedThree, asked_for, asking_bytes, closing, closing_bytes, cut_bytes, lost, lost_bytes, posted, posting_bytes, turned_away}
 use Rattle.gaz_exchange.specs.declared.framing.Framing.TheVariants.{Length}
 use Rattle.gaz_exchange.proofs.ExchangeFacts.{door_heard, door_unheard}
 use Rattle.gaz_exchange.proofs.StreamLaws.{one_request}

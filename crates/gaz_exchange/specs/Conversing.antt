@@ -8,12 +8,12 @@ use Rattle.gaz_keeper.specs.Received.{Received}
 use Rattle.gaz_hub.specs.Answers.{AllAnswered}
 use Rattle.gaz_hub.specs.Hubs.{Runs, StandsFor}
 use Rattle.gaz_hub.specs.Step.{Command, Door, Response}
+use Rattle.gaz_http.specs.Failing.{HasFailed, NeverFails}
+use Rattle.gaz_http.specs.Sparing.{OneForEach, OneForEachUsed}
+use Rattle.gaz_http.specs.declared.supply.Cause.TheVariants.{ReadFault}
 use Rattle.gaz_exchange.specs.Ends.{AnswersAll, ComesTo}
 use Rattle.gaz_exchange.specs.Exchanges.{Exchange, Comes, HearsDoor, RoutesStay, goes_on}
 use Rattle.gaz_exchange.specs.Exchanges.{commands_of, responses_of}
-use Rattle.gaz_exchange.specs.Failing.{HasFailed, NeverFails}
-use Rattle.gaz_exchange.specs.Sparing.{OneForEach, OneForEachUsed}
-use Rattle.gaz_exchange.specs.declared.supply.Cause.TheVariants.{ReadFault}
 use Rattle.gaz_exchange.specs.declared.conversation.Served.{Served}
 use Rattle.gaz_exchange.specs.declared.conversation.Stopped.{Stopped}
 

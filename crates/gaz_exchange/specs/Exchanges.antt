@@ -8,9 +8,10 @@ use Rattle.std.specs.Result.{result_ok}
 use Rattle.httparse.specs.Grammar.{RequestHead}
 use Rattle.gaz_hub.specs.Hubs.{IsToldAtDoor}
 use Rattle.gaz_hub.specs.Step.{Command, Door, Response}
+use Rattle.gaz_http.specs.Headers.{is_closing}
+use Rattle.gaz_http.specs.Heads.{BeginsWith}
 use Rattle.gaz_exchange.specs.Asking.{asked}
-use Rattle.gaz_exchange.specs.Framing.{length_of, is_closing}
-use Rattle.gaz_exchange.specs.Heads.{BeginsWith}
+use Rattle.gaz_exchange.specs.Framing.{length_of}
 use Rattle.gaz_exchange.specs.Replies.{IsReplyText, reply_text, reply_to}
 use Rattle.gaz_exchange.specs.declared.fault.Fault.{Fault}
 use Rattle.gaz_exchange.specs.declared.fault.Fault.TheVariants.{NotReceived}

@@ -1,13 +1,12 @@
--- How long a request's body is (RFC 9112, section 6), and whether the conversation ends after it
--- (RFC 9112, section 9).
+-- How long a request's body is (RFC 9112, section 6).
 use Rattle.std.specs.Prelude.{ℕ, ◌==◌, ◌||◌, not, nat_lt, Bool, if◌then◌else◌, List, length, codes}
 use Rattle.std.specs.Prelude.{Option, Some, None, bytes_eq}
 use Rattle.std.specs.Str.{all_ascii_digits}
 use Rattle.std.specs.Str.Parse.{digits_value}
 use Rattle.httparse.specs.Grammar.{RequestHead}
 use Rattle.gaz_ids.specs.Limits.{most_bytes}
-use Rattle.gaz_exchange.specs.Headers.{Header, headers_of, count_of, value_of, asks_close}
 use Rattle.gaz_hub.specs.declared.refusal.DoorRefusal.TheVariants.{TooLarge}
+use Rattle.gaz_http.specs.Headers.{Header, count_of, headers_of, value_of}
 use Rattle.gaz_exchange.specs.declared.fault.Fault.TheVariants.{BadRequest, Door}
 use Rattle.gaz_exchange.specs.declared.fault.Fault.TheVariants.{LengthRequired}
 use Rattle.gaz_exchange.specs.declared.framing.Framing.{Framing}
@@ -44,11 +43,3 @@ is_post h = is_post_method h.method
 -- how long the body behind a head is
 unfoldable pub length_of : RequestHead → Framing
 length_of h = length_in (is_post h) (headers_of h)
-
--- HTTP/1.0, or a Connection header with the option close
-abbrev pub closes_in : ℕ → List Header → Bool
-closes_in minor headers = (minor == 0) || asks_close headers
-
--- the request ends the conversation by its own word
-unfoldable pub is_closing : RequestHead → Bool
-is_closing h = closes_in h.minor (headers_of h)

@@ -3,12 +3,15 @@ use Rattle.std.specs.Prelude.{◌≡◌, ◌⊎◌, ◌<◌, ◌++◌, ⊤, ℕ,
 use Rattle.std.specs.Prelude.{Result, Err}
 use Rattle.std.specs.Io.KnownBytes.{IsAtEnd}
 use Rattle.httparse.specs.Grammar.{RequestHead}
+use Rattle.gaz_http.specs.Headers.{is_closing}
+use Rattle.gaz_http.specs.Heads.{IsOver}
+use Rattle.gaz_http.specs.Sparing.{OneForEach, OneForEachUsed}
+use Rattle.gaz_http.specs.declared.supply.Cause.{Cause}
+use Rattle.gaz_http.specs.declared.supply.Cause.TheVariants.{ReadFault}
 use Rattle.gaz_exchange.specs.Asking.{call_at, method_of}
 use Rattle.gaz_exchange.specs.Exchanges.{BeginsWithRequest}
-use Rattle.gaz_exchange.specs.Framing.{is_closing, length_of}
-use Rattle.gaz_exchange.specs.Heads.{IsOver}
+use Rattle.gaz_exchange.specs.Framing.{length_of}
 use Rattle.gaz_exchange.specs.Refusals.{IsRefused, IsUnfinished}
-use Rattle.gaz_exchange.specs.Sparing.{OneForEach, OneForEachUsed}
 use Rattle.gaz_exchange.specs.Targets.{target_of}
 use Rattle.gaz_exchange.specs.declared.fault.Fault.{Fault}
 use Rattle.gaz_exchange.specs.declared.fault.Fault.TheVariants.{BadRequest, NotReceived}
@@ -19,8 +22,6 @@ use Rattle.gaz_exchange.specs.declared.calls.Method.{Method}
 use Rattle.gaz_exchange.specs.declared.request.Incoming.{Incoming}
 use Rattle.gaz_exchange.specs.declared.request.Incoming.TheVariants as incoming
 use Rattle.gaz_exchange.specs.declared.request.Needed.{Needed}
-use Rattle.gaz_exchange.specs.declared.supply.Cause.{Cause}
-use Rattle.gaz_exchange.specs.declared.supply.Cause.TheVariants.{ReadFault}
 
 -- what the hub is asked at a target, where the routes were found, and else 51
 abbrev pub IsCallAt : Bool → List ℕ → Method → Result Routed Fault → Type 0

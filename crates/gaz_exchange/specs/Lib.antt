@@ -1,5 +1,3 @@
-pub mod Heads
-pub mod Headers
 pub mod Faults
 pub mod Framing
 pub mod Targets
@@ -14,12 +12,7 @@ pub mod WorkedStreams
 pub mod WorkedEnds
 pub mod WorkedFraming
 pub mod WorkedReplies
-pub mod Next
-pub mod Sparing
-pub mod Supplies
-pub mod Bodies
 pub mod Incoming
 pub mod Sending
 pub mod Turns
-pub mod Failing
 pub mod Routing

@@ -2,8 +2,8 @@
 use Rattle.std.specs.Prelude.{◌≡◌, ℕ, ◌<◌, ◌⊎◌, List, length, Option, true}
 use Rattle.std.specs.Io.KnownBytes.{IsAtEnd}
 use Rattle.httparse.specs.Grammar.{RequestHead}
+use Rattle.gaz_http.specs.Heads.{BeginsWith, IsOver, NeverHead, NoHead}
 use Rattle.gaz_exchange.specs.Framing.{length_of}
-use Rattle.gaz_exchange.specs.Heads.{BeginsWith, IsOver, NeverHead, NoHead}
 use Rattle.gaz_exchange.specs.Replies.{reply_text}
 use Rattle.gaz_exchange.specs.declared.fault.Fault.{Fault}
 use Rattle.gaz_exchange.specs.declared.fault.Fault.TheVariants.{BadRequest, NotReceived}

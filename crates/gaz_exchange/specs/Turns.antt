@@ -5,21 +5,21 @@ use Rattle.std.specs.Io.KnownBytes.{Appends, Consumes, IsAtEnd}
 use Rattle.gaz_keeper.specs.Keeper.{Seen}
 use Rattle.gaz_hub.specs.Hubs.{IsToldAtDoor, Runs, Steps}
 use Rattle.gaz_hub.specs.Step.{Door, Response}
+use Rattle.gaz_http.specs.Headers.{is_closing}
+use Rattle.gaz_http.specs.Heads.{IsOver}
+use Rattle.gaz_http.specs.Sparing.{OneForEach, OneForEachUsed}
+use Rattle.gaz_http.specs.declared.supply.Cause.{Cause}
+use Rattle.gaz_http.specs.declared.supply.Cause.TheVariants.{ReadFault, WriteFault}
 use Rattle.gaz_exchange.specs.Asking.{command_of}
 use Rattle.gaz_exchange.specs.Conversing.{Transfer}
 use Rattle.gaz_exchange.specs.Exchanges.{Exchange, HearsDoor, IsExchanged, commands_of}
 use Rattle.gaz_exchange.specs.Exchanges.{responses_of}
-use Rattle.gaz_exchange.specs.Framing.{is_closing}
-use Rattle.gaz_exchange.specs.Heads.{IsOver}
 use Rattle.gaz_exchange.specs.Refusals.{IsTurnedAway, IsUnfinished}
 use Rattle.gaz_exchange.specs.Replies.{reply_to}
 use Rattle.gaz_exchange.specs.Sending.{IsSent}
-use Rattle.gaz_exchange.specs.Sparing.{OneForEach, OneForEachUsed}
-use Rattle.gaz_exchange.specs.declared.supply.Cause.{Cause}
-use Rattle.gaz_exchange.specs.declared.supply.Cause.TheVariants.{ReadFault, WriteFault}
-use Rattle.gaz_exchange.specs.declared.conversation.Turn.{Turn}
-use Rattle.gaz_exchange.specs.declared.conversation.Turn.TheVariants.{Answered, Closed, Over}
-use Rattle.gaz_exchange.specs.declared.conversation.Turn.TheVariants.{Stopped}
+use Rattle.gaz_exchange.specs.declared.turn.Turn.{Turn}
+use Rattle.gaz_exchange.specs.declared.turn.Turn.TheVariants.{Answered, Closed, Over}
+use Rattle.gaz_exchange.specs.declared.turn.Turn.TheVariants.{Stopped}
 use Rattle.gaz_exchange.specs.declared.fault.Fault.{Fault}
 use Rattle.gaz_exchange.specs.declared.reply.Reply.{Reply}
 use Rattle.gaz_exchange.specs.declared.reply.Reply.TheVariants.{Refused}
@@ -93,15 +93,29 @@ abbrev pub TurnsAway : Door → ℕ → ℕ → List ℕ → Option (List ℕ) �
 TurnsAway door before after bytes left old new text =
     IsTurnedAway bytes left text × Rests door old new × OneForEach before after bytes (IsAtEnd left)
 
+-- the request at the front of the bytes was answered by this text; no other may follow, or one may
+abbrev pub AnswersOne : Door → Bool → Bool → ℕ → ℕ → List ℕ → List ℕ → Seen → Seen → List ℕ → Bool
+    → Type 0
+AnswersOne door is_last routed before after bytes rest old new text ends =
+    (e : Exchange) × Exchanges door is_last routed bytes e rest old new × (text ≡ e.reply)
+    × ((is_closing e.head || is_last) ≡ ends) × OneForEachUsed before after bytes rest
+
+-- the writer failed in a reply or a refusal, of which something is lost
+abbrev pub BreaksOff : Door → Bool → Bool → ℕ → ℕ → List ℕ → List ℕ → Option (List ℕ) → Seen → Seen
+    → List ℕ → Type 0
+BreaksOff door is_last routed before after bytes rest left old new written =
+    (lost : List ℕ) × (lost ≢ [])
+    × (((e : Exchange) × Exchanges door is_last routed bytes e rest old new
+    × (e.reply ≡ written ++ lost) × OneForEachUsed before after bytes rest)
+    ⊎ TurnsAway door before after bytes left old new (written ++ lost))
+
 -- how a turn turned out
 abbrev pub TurnsOut : Door → Bool → Bool → ℕ → ℕ → List ℕ → List ℕ → Option (List ℕ) → Seen
     → Seen → List ℕ → Turn → Type 0
 TurnsOut door is_last routed before after bytes rest left old new written Answered =
-    (e : Exchange) × Exchanges door is_last routed bytes e rest old new × (written ≡ e.reply)
-    × ((is_closing e.head || is_last) ≡ false) × OneForEachUsed before after bytes rest
+    AnswersOne door is_last routed before after bytes rest old new written false
 TurnsOut door is_last routed before after bytes rest left old new written Closed =
-    ((e : Exchange) × Exchanges door is_last routed bytes e rest old new × (written ≡ e.reply)
-    × ((is_closing e.head || is_last) ≡ true) × OneForEachUsed before after bytes rest)
+    AnswersOne door is_last routed before after bytes rest old new written true
     ⊎ TurnsAway door before after bytes left old new written
 TurnsOut door is_last routed before after bytes rest left old new written Over =
     IsOver bytes × IsAtEnd left × Rests door old new × (written ≡ [])
@@ -110,10 +124,7 @@ TurnsOut door is_last routed before after bytes rest left old new written (Stopp
     Waits door before after bytes old new written ReadFault
 TurnsOut door is_last routed before after bytes rest left old new written (Stopped WriteFault) =
     Waits door before after bytes old new written WriteFault
-    ⊎ ((lost : List ℕ) × (lost ≢ [])
-    × (((e : Exchange) × Exchanges door is_last routed bytes e rest old new
-    × (e.reply ≡ written ++ lost) × OneForEachUsed before after bytes rest)
-    ⊎ TurnsAway door before after bytes left old new (written ++ lost)))
+    ⊎ BreaksOff door is_last routed before after bytes rest left old new written
 
 -- where a conversation stands between two turns: whether the routes were found, how often the
 -- reader was read, the bytes that are pending, and the hub as it is seen

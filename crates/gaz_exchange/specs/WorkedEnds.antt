@@ -1,15 +1,14 @@
--- Worked examples on how a conversation ends, and how often its reader is read.
-use Rattle.std.specs.Prelude.{⊤, ℕ, List, [], ◌∷◌, Some, None, Option, Ok, Err, codes, take}
+-- Worked examples on how a conversation ends.
+use Rattle.std.specs.Prelude.{ℕ, List, [], ◌∷◌, Some, None, Option, Ok, Err, codes, take}
 use Rattle.std.specs.Prelude.{Result}
+use Rattle.gaz_http.specs.declared.supply.Cause.{Cause}
+use Rattle.gaz_http.specs.declared.supply.Cause.TheVariants.{ReadFault, WriteFault}
 use Rattle.gaz_exchange.specs.Ends.{AnswersAll, ComesTo, Passed}
-use Rattle.gaz_exchange.specs.Sparing.{OneForEach, OneForEachUsed}
 use Rattle.gaz_exchange.specs.WorkedStreams.{lost, lost_bytes}
 use Rattle.gaz_exchange.specs.declared.conversation.Ended.{Ended}
 use Rattle.gaz_exchange.specs.declared.conversation.Ended.TheVariants.{Most, Closed, InputEnd}
 use Rattle.gaz_exchange.specs.declared.conversation.Served.{Served}
 use Rattle.gaz_exchange.specs.declared.conversation.Stopped.{Stopped}
-use Rattle.gaz_exchange.specs.declared.supply.Cause.{Cause}
-use Rattle.gaz_exchange.specs.declared.supply.Cause.TheVariants.{ReadFault, WriteFault}
 
 -- what passed where these bytes stand behind one request, and all of its reply was written
 abbrev pub answered : List ℕ → Option (List ℕ) → Passed
@@ -70,17 +69,7 @@ pub record WorkedAll : Type 0 where
   -- it doesn't leave a whole request behind one that isn't the last
   pub not_one_left : AnswersAll 2 (answered lost_bytes None) (served 1 InputEnd) → ⊥
 
--- reads, of which there were two before
-pub record WorkedReads : Type 0 where
-  pub each : OneForEach 2 5 (codes "GET") ⊥
-  pub one_more : OneForEach 2 6 (codes "GET") ⊤
-  pub not_one_more : OneForEach 2 6 (codes "GET") ⊥ → ⊥
-  pub not_two_more : OneForEach 2 7 (codes "GET") ⊤ → ⊥
-  pub used : OneForEachUsed 2 4 (codes "GET") (codes "T")
-  pub not_behind : OneForEachUsed 2 5 (codes "GET") (codes "T") → ⊥
-
 pub record WorkedEnds : Type 0 where
   pub endings : WorkedEndings
   pub stops : WorkedStops
   pub all : WorkedAll
-  pub reads : WorkedReads

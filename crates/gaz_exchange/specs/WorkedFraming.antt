@@ -1,10 +1,9 @@
--- Worked examples of how long a body is and of which request is the last, computed from the
--- definitions.
-use Rattle.std.specs.Prelude.{◌≡◌, List, ℕ, [], ◌∷◌, true, false, codes}
+-- Worked examples of how long a body is, computed from the definitions.
+use Rattle.std.specs.Prelude.{◌≡◌, List, ℕ, [], ◌∷◌, codes}
 use Rattle.httparse.specs.Grammar.{Field, RequestHead}
 use Rattle.gaz_hub.specs.declared.refusal.DoorRefusal.TheVariants.{TooLarge}
-use Rattle.gaz_exchange.specs.Framing.{is_closing, length_of}
-use Rattle.gaz_exchange.specs.WorkedStreams.{head, header}
+use Rattle.gaz_http.specs.WorkedClosings.{head, header}
+use Rattle.gaz_exchange.specs.Framing.{length_of}
 use Rattle.gaz_exchange.specs.declared.fault.Fault.TheVariants.{BadRequest, Door, LengthRequired}
 use Rattle.gaz_exchange.specs.declared.framing.Framing.TheVariants.{Length, Refused}
 
@@ -15,10 +14,6 @@ posting fields = head (codes "POST") (codes "/custodians/1001/volumes/1") fields
 abbrev pub asking : List Field → RequestHead
 asking fields = head (codes "GET") (codes "/custodians/1001") fields
 
--- a head of HTTP/1.0
-abbrev pub old : RequestHead → RequestHead
-old h = record h { minor = 0 }
-
 -- the header that tells a length, and one that names a transfer coding
 abbrev pub sized : List ℕ → Field
 sized value = header (codes "Content-Length") value
@@ -26,11 +21,8 @@ sized value = header (codes "Content-Length") value
 abbrev pub chunked : Field
 chunked = header (codes "Transfer-Encoding") (codes "chunked")
 
-abbrev pub connection : List ℕ → Field
-connection value = header (codes "Connection") value
-
 -- a transfer coding is looked at first, then whether the length is told twice, then what it is
-pub record WorkedLengths : Type 0 where
+pub record WorkedFraming : Type 0 where
   pub told : length_of (posting (sized (codes "3") ∷ [])) ≡ Length 3
   pub other_case : length_of (posting (header (codes "content-LENGTH") (codes "3") ∷ [])) ≡ Length 3
   pub not_told : length_of (posting []) ≡ Refused LengthRequired
@@ -52,19 +44,3 @@ pub record WorkedLengths : Type 0 where
   pub asked : length_of (asking []) ≡ Length 0
   pub asked_told : length_of (asking (sized (codes "3") ∷ [])) ≡ Length 3
   pub asked_coded : length_of (asking (chunked ∷ [])) ≡ Refused LengthRequired
-
--- requests that end a conversation, and some that don't
-pub record WorkedClosings : Type 0 where
-  pub goes_on : is_closing (asking []) ≡ false
-  pub of_http_1_0 : is_closing (old (asking [])) ≡ true
-  pub kept_alive : is_closing (old (asking (connection (codes "keep-alive") ∷ []))) ≡ true
-  pub close : is_closing (asking (connection (codes "close") ∷ [])) ≡ true
-  pub among_others : is_closing (asking (connection (codes "x, Close") ∷ [])) ≡ true
-  pub in_a_second : is_closing (asking (connection (codes "x") ∷ connection (codes "close") ∷ []))
-      ≡ true
-  pub longer_word : is_closing (asking (connection (codes "closed") ∷ [])) ≡ false
-  pub other_header : is_closing (asking (header (codes "X") (codes "close") ∷ [])) ≡ false
-
-pub record WorkedFraming : Type 0 where
-  pub lengths : WorkedLengths
-  pub closings : WorkedClosings

@@ -1,7 +1,6 @@
 -- Worked examples on the requests of a stream.
 use Rattle.std.specs.Prelude.{◌≡◌, ℕ, true, false, List, [], ◌∷◌, ◌++◌, codes, Some, None}
 use Rattle.std.specs.Prelude.{Ok, Err}
-use Rattle.httparse.specs.Grammar.{Field, RequestHead, crlf}
 use Rattle.gaz_hub.specs.Hubs.{door_of}
 use Rattle.gaz_hub.specs.Step.{Door, Pose, Replied, Submit, Submitted}
 use Rattle.gaz_hub.specs.WorkedHubs.{upper_and_lower}
@@ -10,27 +9,12 @@ use Rattle.gaz_hub.specs.declared.outcome.Outcome.TheVariants.{Rejected}
 use Rattle.gaz_hub.specs.declared.question.Question.TheVariants.{Ask}
 use Rattle.gaz_hub.specs.declared.refusal.DoorRefusal.TheVariants.{UnknownCustodian}
 use Rattle.gaz_hub.specs.declared.refusal.Refusal.TheVariants as refusal
+use Rattle.gaz_http.specs.WorkedClosings.{head, header}
 use Rattle.gaz_exchange.specs.Exchanges.{Comes, Exchange, HearsDoor, RoutesStay, commands_of}
 use Rattle.gaz_exchange.specs.Exchanges.{goes_on, replies, responses_of}
 use Rattle.gaz_exchange.specs.Refusals.{IsRefused, IsUnfinished}
 use Rattle.gaz_exchange.specs.Streams.{NoRequest}
 use Rattle.gaz_exchange.specs.declared.fault.Fault.TheVariants.{BadRequest}
-
--- a head of HTTP/1.1, each of whose lines ends in CR and LF
-abbrev pub head : List ℕ → List ℕ → List Field → RequestHead
-head method target fields = record {
-  blank = [];
-  method = method;
-  target = target;
-  minor = 1;
-  line_end = crlf;
-  fields = fields;
-  last = crlf;
-}
-
--- a header of such a head
-abbrev pub header : List ℕ → List ℕ → Field
-header name value = record { name = name; raw = 32 ∷ value; end = crlf }
 
 -- a file of three bytes is posted, and rejected
 abbrev pub posted : Exchange

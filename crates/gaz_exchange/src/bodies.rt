@@ -1,21 +1,18 @@
 //! The bodies of replies: compact JSON with its keys in byte order, and one line feed.
-ghost use Rattle.std.specs.Prelude.{◌≡◌, ◌≤◌, ◌+◌, ◌++◌, [], codes, decimal, false, flat_map};
-ghost use Rattle.std.specs.Prelude.{length, IfOk, OnOk, string_bytes};
-ghost use Rattle.std.specs.List.{join_by};
+ghost use Rattle.std.specs.Prelude.{◌≡◌, ◌≤◌, ◌+◌, ◌++◌, [], decimal, false, length, IfOk, OnOk};
 ghost use Rattle.std.specs.Option.{unwrap_or};
 ghost use Rattle.gaz_hub.specs.declared.question.Told.TheVariants as Told;
-ghost use Rattle.gaz_exchange.specs.Replies.{body_of, closed_text, is_extract, line_text};
+ghost use Rattle.gaz_exchange.specs.Replies.{body_of, is_extract, line_text};
 ghost use Rattle.gaz_exchange.specs.Replies.{outcome_text, told_text, want_text, wants_text};
 ghost use Rattle.gaz_exchange.specs.declared.reply.Reply.TheVariants as Reply;
 
-use gaz_extract::{AddressLine, Closed, Found};
+use crate::closed::closed_body;
+use gaz_extract::{AddressLine, Found};
 use gaz_hub::{Digest, Outcome, Standing, Told};
 use gaz_ids::{Code, Volume};
-use gaz_records::RecordKey;
 use itoa::Buffer;
 use json::Writer;
 use std::alloc::{AllocError, Global};
-use std::fmt::Write;
 
 /// The bytes that the members about a property fit in, but for its line.
 const FOUND_ROOM: usize = 64;
@@ -132,7 +129,7 @@ fn with_line(out: Vec<u8>, line: &Option<AddressLine>) -> Result<Vec<u8>, AllocE
 
 // The bytes that a body fits in where its line needs no escapes.
 fn room_for(found: &Found) -> usize
-    ensures { result ≤ 64 + length (unwrap_or found.now.line []) }
+    ensures { result ≤ FOUND_ROOM + length (unwrap_or found.now.line []) }
 {
     match &found.line {
         None => FOUND_ROOM,
@@ -152,67 +149,6 @@ fn found_body(alloc: Global, found: &Found) -> Result<Vec<u8>, AllocError>
     add_number(&mut out, b",\"uprn\":", found.uprn.number())?;
     out.extend_from_slice(b"}\n")?;
     Ok(out)
-}
-
-// The letters and digits of a key.
-fn key_text(key: &RecordKey) -> &str
-    ensures { result.now ≡ key.now }
-{
-    match std::str::from_utf8(key.as_bytes()) {
-        Ok(text) => text,
-        Err(_) => unreachable!(),
-    }
-}
-
-// Adds an address on a closed street.
-fn add_closed(out: &mut String, closed: &Closed) -> Result<(), AllocError>
-    ensures { OnOk result
-        (string_bytes out.new ≡ string_bytes out.old ++ closed_text closed.now) }
-{
-    let custodian = closed.custodian;
-    let lpi = key_text(&closed.lpi);
-    let usrn = closed.usrn;
-    write!(
-        out,
-        "{{\"custodian\":{custodian},\"lpi\":\"{lpi}\",\"usrn\":{usrn}}}"
-    )?;
-    Ok(())
-}
-
-// Adds addresses that follow another, each behind a comma.
-fn add_others(out: &mut String, others: &[Closed]) -> Result<(), AllocError>
-    ensures { OnOk result (string_bytes out.new
-        ≡ string_bytes out.old ++ flat_map (λ c. codes "," ++ closed_text c) others.now) }
-{
-    for closed in others {
-        out.push_str(",")?;
-        add_closed(out, closed)?;
-    }
-    Ok(())
-}
-
-// Adds addresses, with a comma between each two.
-fn add_all(out: &mut String, closed: &[Closed]) -> Result<(), AllocError>
-    ensures { OnOk result (string_bytes out.new
-        ≡ string_bytes out.old ++ join_by closed_text (codes ",") closed.now) }
-{
-    match closed.split_first() {
-        None => Ok(()),
-        Some((first, others)) => {
-            add_closed(out, first)?;
-            add_others(out, others)
-        }
-    }
-}
-
-// Addresses on closed streets.
-fn closed_body(alloc: Global, closed: &[Closed]) -> Result<Vec<u8>, AllocError>
-    ensures { IfOk result (λ body. body.items ≡ told_text (Told.Closed closed.now)) }
-{
-    let mut out = String::from_str(alloc, "{\"closed\":[")?;
-    add_all(&mut out, closed)?;
-    out.push_str("]}\n")?;
-    Ok(out.into_bytes())
 }
 
 /// What is told of a question, but for an extract, whose bytes are there.

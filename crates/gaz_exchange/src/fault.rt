@@ -27,7 +27,8 @@ pub enum Fault {
     BadMethod(Allowed),
     /// 43: the body's length isn't told, or by a `Transfer-Encoding`.
     LengthRequired,
-    /// 51: nothing was received.
+    /// 51: the request's file wasn't received by it, or its question wasn't answered: memory or the
+    /// store failed.
     NotReceived,
     /// 52: the file was received, and not all that is ready was judged or told.
     Unsettled,

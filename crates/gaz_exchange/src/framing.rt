@@ -6,7 +6,7 @@ ghost use Rattle.gaz_ids.specs.Limits.{most_bytes};
 ghost use Rattle.gaz_exchange.specs.Framing.{is_post_method, length_in, size_in};
 
 use crate::fault::Fault;
-use crate::headers::{find_value, how_many};
+use gaz_http::{find_value, how_many};
 use gaz_hub::DoorRefusal;
 use gaz_ids::MOST_BYTES;
 use gaz_ids::digits::are_digits;

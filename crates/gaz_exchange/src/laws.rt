@@ -6,8 +6,7 @@ ghost use Rattle.gaz_exchange.specs.WorkedFraming.{WorkedFraming};
 ghost use Rattle.gaz_exchange.specs.WorkedReplies.{WorkedReplies};
 ghost use Rattle.gaz_exchange.specs.WorkedStreams.{WorkedStreams};
 
-use crate::sink::Sink;
-use crate::source::Source;
+use gaz_http::{Sink, Source};
 
 /// The bytes of a stream determine its requests.
 pub fn bytes_tell_requests()
@@ -20,13 +19,12 @@ pub fn worked_streams()
     ensures { WorkedStreams }
 {}
 
-/// How a conversation ends, what it has answered then and how often its reader was read, on worked
-/// examples.
+/// How a conversation ends and what it has answered then, on worked examples.
 pub fn worked_ends()
     ensures { WorkedEnds }
 {}
 
-/// How long the body of a request is and which request is the last, on worked examples.
+/// How long the body of a request is, on worked examples.
 pub fn worked_framing()
     ensures { WorkedFraming }
 {}

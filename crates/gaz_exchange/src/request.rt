@@ -2,23 +2,19 @@ ghost use Rattle.std.specs.Prelude.{◌≡◌, [], false, true};
 ghost use Rattle.std.specs.Io.KnownBytes.{Keeps};
 ghost use Rattle.httparse.specs.Grammar.{RequestHead};
 ghost use Rattle.httparse.specs.Spans.{IsRequestAt};
-ghost use Rattle.gaz_exchange.specs.Failing.{HasFailed};
-ghost use Rattle.gaz_exchange.specs.Next.{IsHeadAt};
+ghost use Rattle.gaz_http.specs.Failing.{HasFailed};
+ghost use Rattle.gaz_http.specs.Next.{IsHeadAt};
+ghost use Rattle.gaz_http.specs.Supplies.{Reads};
 ghost use Rattle.gaz_exchange.specs.Incoming.{IfRequestFailed, IsBehind, IsIncoming, IsNeeded};
 ghost use Rattle.gaz_exchange.specs.Incoming.{IsReadForRequest};
-ghost use Rattle.gaz_exchange.specs.Supplies.{Reads};
 
-use crate::body::{Body, read_body};
 use crate::calls::{Method, Routed};
 use crate::fault::Fault;
 use crate::framing::{Framing, find_framing, is_post};
-use crate::headers::closes;
-use crate::heads::{MOST_HEADERS, Next, next_head};
-use crate::inlet::Inlet;
 use crate::route::Routes;
-use crate::sink::Sink;
-use crate::source::Source;
-use crate::supply::Cause;
+use gaz_http::{
+    Body, Cause, Inlet, MOST_HEADERS, Next, Sink, Source, closes, next_head, read_body,
+};
 use httparse::spans::{EMPTY_HEADER_SPAN, HeaderSpan, RequestSpans};
 use std::alloc::Global;
 use std::mem::replace;

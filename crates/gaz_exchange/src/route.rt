@@ -84,7 +84,7 @@ impl Model for Routes {
 }
 
 impl Routes {
-    /// Not found yet.
+    /// None yet: they are made when they are first asked for.
     pub fn new() -> Self
         ensures { result ≡ false }
     {

@@ -1,35 +1,17 @@
 ghost use Rattle.std.specs.Prelude.{◌≡◌, ◌++◌, false, true, length, IfOk};
-ghost use Rattle.gaz_exchange.specs.Failing.{FailedInto};
+ghost use Rattle.gaz_http.specs.Failing.{FailedInto};
+ghost use Rattle.gaz_http.specs.Writing.{IsPut};
 ghost use Rattle.gaz_exchange.specs.Replies.{end_of, reply_text, takes_memory};
-ghost use Rattle.gaz_exchange.specs.Sending.{IsPut, IsSent, head_of};
+ghost use Rattle.gaz_exchange.specs.Sending.{IsSent, head_of};
 ghost use Rattle.gaz_exchange.specs.declared.fault.Fault.{Fault};
 ghost use Rattle.gaz_exchange.specs.declared.reply.Reply.TheVariants as Reply;
 
 use crate::bodies::{outcome_body, taken_body, told_body};
 use crate::reply::{Reply, memory_text};
-use crate::sink::Sink;
+use gaz_http::{Sink, write_all};
 use gaz_hub::Told;
 use itoa::Buffer;
 use std::alloc::{AllocError, Global};
-
-/// Writes the text. At `false` the writer failed, or took nothing, and perhaps a front of the text
-/// is written, but not all.
-pub fn write_all<W: Sink>(w: &mut W, text: &[u8]) -> bool
-    ensures put { IsPut (W.contents w.old) (W.contents w.new) text.now result }
-    ensures failed { result ≡ false → FailedInto W.failed w.new }
-{
-    let mut at = 0;
-    'writes: while at < text.len() {
-        let Ok(n) = w.write_once(&text[at..]) else {
-            return false;
-        };
-        if n == 0 {
-            return false;
-        }
-        at += n;
-    }
-    true
-}
 
 // What stands before the length of a body.
 macro_rules! front {

@@ -22,7 +22,7 @@ use Rattle.gaz_records.specs.declared.item.Item.TheVariants as item
 use Rattle.gaz_records.specs.declared.key.Key.{Key}
 use Rattle.gaz_keeper.specs.Board.{reached, view_after}
 use Rattle.gaz_views.proofs.Pages.{rows_keyed}
-use Rattle.gaz_views.specs.Reading.{IsKeyed}
+use Rattle.gaz_views.specs.Lawful.{IsKeyed}
 use Rattle.gaz_views.specs.View.{View, empty_view, with_item}
 use Rattle.gaz_views.specs.Words.{entries}
 use Rattle.gaz_extract.specs.Extracts.{extract_rows, items_of, record_of, records_from, trailer}

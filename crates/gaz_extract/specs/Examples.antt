@@ -111,7 +111,7 @@ pub record WorkedLines : Type 0 where
 -- ---- a county and a district
 
 abbrev pub street : ℕ → Option CivilDay → Item
-street usrn end = item.Street (record { usrn = usrn; sort = 1; start = spring; end = end })
+street usrn end = item.Street (record { usrn = usrn; street_type = 1; start = spring; end = end })
 
 -- a street with a flat on it, whose former address comes first by its key
 abbrev pub county_items : List Item

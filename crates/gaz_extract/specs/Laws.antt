@@ -10,7 +10,7 @@ use Rattle.gaz_records.specs.Kinds.{identified}
 use Rattle.gaz_records.specs.declared.item.Item.{Item}
 use Rattle.gaz_rows.specs.Rows.{Fields, rows_of}
 use Rattle.gaz_keeper.specs.Board.{Board, view_after}
-use Rattle.gaz_views.specs.Reading.{IsKeyed}
+use Rattle.gaz_views.specs.Lawful.{IsKeyed}
 use Rattle.gaz_views.specs.View.{View, empty_view, with_item}
 use Rattle.gaz_extract.specs.Extracts.{extract, items_of}
 

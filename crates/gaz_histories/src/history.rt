@@ -1,8 +1,8 @@
 //! The versions of one key.
-ghost use Rattle.std.specs.Prelude.{◌≡◌, ◌↔◌, ◌++◌, ◌∷◌, []};
+ghost use Rattle.std.specs.Prelude.{◌≡◌, ◌↔◌, []};
 ghost use Rattle.std.specs.Prelude.{OnOk, OnErr, IsOk, IsTrue, option_map};
 ghost use Rattle.gaz_histories.specs.Histories.{Ascends, BeginsFrom, IsOverBy, before, is_empty};
-ghost use Rattle.gaz_histories.specs.Histories.{lived, standing_at, was_used_at};
+ghost use Rattle.gaz_histories.specs.Histories.{lived, standing_at, was_used_at, with_version};
 ghost use Rattle.gaz_histories.specs.Kept.{versions_in};
 
 use crate::kept::Kept;
@@ -90,7 +90,7 @@ impl<T: Drop> History<T> {
     /// From a volume on this stands at the key, or nothing. What began at the volume or after it is
     /// forgotten. The first version of all needs no memory, nor does one in place of others.
     pub fn set(&mut self, volume: u64, standing: Option<T>) -> Result<(), AllocError>
-        ensures ok { OnOk result (self.new ≡ before self.old volume ++ (volume, standing) ∷ []) }
+        ensures ok { OnOk result (self.new ≡ with_version self.old volume standing) }
         ensures err { OnErr result (self.new ≡ self.old) }
         ensures first { self.old ≡ [] → IsOk result }
         ensures again { BeginsFrom self.old volume → IsOk result }

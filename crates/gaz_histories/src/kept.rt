@@ -32,8 +32,8 @@ impl<T: Drop> Kept<T> {
         }
     }
 
-    /// Whether this is one version, kept without memory, that begins before a volume.
-    pub fn is_one_before(&self, volume: u64) -> bool
+    // Whether this is one version, kept without memory, that begins before a volume.
+    fn is_one_before(&self, volume: u64) -> bool
         ensures { result ≡ is_one_before self.now volume }
     {
         match self {

@@ -6,7 +6,8 @@ use Rattle.gaz_chains.specs.Events.{Has}
 use Rattle.gaz_chains.specs.Finding.{found}
 use Rattle.gaz_keeper.specs.Board.{Board, last_view}
 use Rattle.gaz_keeper.specs.Received.{HasAllOf, Received}
-use Rattle.gaz_register.specs.Registers.{IsRegister, Owners, RegisterValue, blocks_of, owner_of_uprn}
+use Rattle.gaz_register.specs.Registers.{IsRegister, Owners, RegisterValue, blocks_of}
+use Rattle.gaz_register.specs.Registers.{owner_of_uprn}
 use Rattle.gaz_rules.specs.Rules.{holds_number}
 use Rattle.gaz_views.specs.View.{custody_at}
 use Rattle.gaz_views.specs.declared.custody.Custody.TheVariants.{Adopted}

@@ -13,14 +13,14 @@ use gaz_ids::{Code, LAST_VOLUME, Volume};
 use gaz_keeper::{Inbox, Shelf, ShelfFault};
 use std::alloc::Global;
 
-/// A custodian's next volume.
+// A custodian's next volume.
 #[derive(Drop)]
-pub enum NextFile {
-    /// Volume 999,999 is judged.
+enum NextFile {
+    // The last volume that there can be is judged.
     Past,
-    /// It wasn't received.
+    // It wasn't received.
     Missing(Volume),
-    /// It has these bytes.
+    // It has these bytes.
     Here(Volume, Vec<u8>),
 }
 
@@ -53,8 +53,8 @@ impl Next {
     }
 }
 
-/// The next volume of a custodian, and its bytes where it was received.
-pub fn next_file<K: Inbox>(keeper: &mut K, code: Code) -> Result<NextFile, ShelfFault>
+// The next volume of a custodian, and its bytes where it was received.
+fn next_file<K: Inbox>(keeper: &mut K, code: Code) -> Result<NextFile, ShelfFault>
     ensures { LooksAtKept K.seen keeper.old keeper.new result
         (λ files board. IsNextFile files board code) }
 {

@@ -71,8 +71,8 @@ pub fn receive<K: Inbox>(
     received
 }
 
-/// Judges until nothing is ready. After a fault nothing is remembered.
-pub fn settle_all<K: Inbox>(
+// Judges until nothing is ready. After a fault nothing is remembered.
+fn settle_all<K: Inbox>(
     alloc: Global,
     register: &Register,
     keeper: &mut K,

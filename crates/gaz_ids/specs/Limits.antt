@@ -5,6 +5,10 @@ use Rattle.std.specs.Prelude.{ℕ}
 abbrev pub last_code : ℕ
 last_code = 9999
 
+-- how often a property can pass between custodians
+abbrev pub last_hop : ℕ
+last_hop = 9999
+
 -- the last volume of a custodian
 abbrev pub last_volume : ℕ
 last_volume = 999_999
@@ -24,3 +28,7 @@ most_changes = 5000
 -- the greatest UPRN: twelve digits
 abbrev pub last_uprn : ℕ
 last_uprn = 999_999_999_999
+
+-- the greatest USRN: eight digits
+abbrev pub last_usrn : ℕ
+last_usrn = 99_999_999

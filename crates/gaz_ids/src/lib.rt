@@ -12,6 +12,8 @@ mod status;
 
 pub use fault::IdFault;
 pub use lang::Lang;
-pub use limits::{LAST_UPRN, LAST_VOLUME, MOST_BASES, MOST_BYTES, MOST_CHANGES};
+pub use limits::{
+    LAST_CODE, LAST_HOP, LAST_UPRN, LAST_USRN, LAST_VOLUME, MOST_BASES, MOST_BYTES, MOST_CHANGES,
+};
 pub use number::{Code, Hop, Number, Order, Uprn, Usrn, Volume};
 pub use status::Status;

@@ -3,7 +3,7 @@ ghost use Rattle.gaz_ids.specs.Numbers.{of_id, read_id};
 
 use crate::digits::{are_digits, value_of};
 use crate::fault::IdFault;
-use crate::limits::{LAST_UPRN, LAST_VOLUME, MOST_CHANGES};
+use crate::limits::{LAST_CODE, LAST_HOP, LAST_UPRN, LAST_USRN, LAST_VOLUME, MOST_CHANGES};
 use std::fmt;
 use std::marker::Model;
 
@@ -20,10 +20,10 @@ pub struct Number<const KIND: u64, const WIDTH: u64, const LOW: u64, const HIGH:
 pub type Uprn = Number<1, 12, 1, LAST_UPRN>;
 
 /// A unique street reference number: at most 8 digits (BS 7666:2006, Part 1), from 1.
-pub type Usrn = Number<2, 8, 1, 99_999_999>;
+pub type Usrn = Number<2, 8, 1, LAST_USRN>;
 
-/// The code of a custodian, 1 to 9999 (our profile).
-pub type Code = Number<3, 4, 1, 9999>;
+/// The code of a custodian, 1 to `LAST_CODE` (our profile).
+pub type Code = Number<3, 4, 1, LAST_CODE>;
 
 /// The number of a custodian's file, 1 to `LAST_VOLUME` (our profile).
 pub type Volume = Number<4, 6, 1, LAST_VOLUME>;
@@ -33,8 +33,8 @@ pub type Volume = Number<4, 6, 1, LAST_VOLUME>;
 pub type Order = Number<5, 4, 1, MOST_CHANGES>;
 
 /// How often a property has passed between custodians, once a release or an adoption is counted:
-/// 1 to 9999 (our profile).
-pub type Hop = Number<6, 4, 1, 9999>;
+/// 1 to `LAST_HOP` (our profile).
+pub type Hop = Number<6, 4, 1, LAST_HOP>;
 
 impl<const KIND: u64, const WIDTH: u64, const LOW: u64, const HIGH: u64> Model
     for Number<KIND, WIDTH, LOW, HIGH> {

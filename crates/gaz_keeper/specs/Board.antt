@@ -1,8 +1,8 @@
 -- The judgements of all custodians.
 use Rattle.std.specs.Prelude.{ℕ, zero, suc, ◌==◌, if◌then◌else◌, List, [], ◌∷◌, ◌++◌, length}
-use Rattle.std.specs.Prelude.{slice_get, unwrap_or, Option, None, option_map}
-pub use Rattle.gaz_views.specs.Judgements.{Judgement, views}
-use Rattle.gaz_views.specs.View.{View, empty_view}
+use Rattle.std.specs.Prelude.{slice_get, Option, None, option_map}
+pub use Rattle.gaz_views.specs.Judgements.{Judgement, view_behind, views}
+use Rattle.gaz_views.specs.View.{View}
 use Rattle.gaz_views.specs.declared.verdict.Verdict.{Verdict}
 
 -- each custodian's judgements, those of the volumes 1, 2, 3, ..
@@ -18,7 +18,7 @@ reached board c = length (board c)
 
 -- the view of a custodian after a volume that it has reached
 abbrev pub view_after : Board → ℕ → ℕ → View
-view_after board c volume = unwrap_or (slice_get (views (board c)) volume) empty_view
+view_after board c volume = view_behind (board c) volume
 
 -- the last one
 abbrev pub last_view : Board → ℕ → View

@@ -5,7 +5,8 @@ use Rattle.std.specs.Prelude.{IfOk, IfErr, OnOk, OnErr}
 use Rattle.std.specs.FinMap as map
 use Rattle.gaz_views.specs.Lawful.{IsLawfulView}
 use Rattle.gaz_views.specs.View.{View, empty_view}
-use Rattle.gaz_keeper.specs.Board.{Board, Judgement, adds, last_view, reached, view_after}
+use Rattle.gaz_keeper.specs.Board.{Board, Judgement, adds, empty_board, last_view, reached}
+use Rattle.gaz_keeper.specs.Board.{view_after}
 use Rattle.gaz_keeper.specs.Received.{Received, with_file}
 use Rattle.gaz_keeper.specs.declared.fault.ShelfFault.{ShelfFault}
 use Rattle.gaz_keeper.specs.declared.fault.ShelfFault.TheVariants.{Memory, Store}
@@ -21,7 +22,7 @@ pub record Content : Type 0 where
   pub working : View
 
 abbrev pub empty_content : Content
-empty_content = record { files = map.empty; board = λ c. []; working = empty_view }
+empty_content = record { files = map.empty; board = empty_board; working = empty_view }
 
 -- each view on the board is lawful, and so is the working one
 pub record IsLawful (k : Content) : Type 0 where
@@ -133,11 +134,12 @@ LeavesAtMost None old new = (k : Content) → new.leaves k → old.leaves k
 LeavesAtMost (Some becomes) old new =
     (k : Content) → new.leaves k → old.leaves k ⊎ (old.unharmed × (k ≡ after_stop becomes))
 
--- this content, and nothing else
+-- what a stop leaves of this content, and nothing else
 abbrev pub LeavesOnly : Content → Seen → Type 0
 LeavesOnly becomes now = (k : Content) → now.leaves k → k ≡ after_stop becomes
 
--- what the call commits, and nothing else
+-- what a stop leaves of the content that the call commits, and nothing else; where it commits
+-- none, nothing is said
 abbrev pub LeavesJust : Option Content → Seen → Seen → Type 0
 LeavesJust None old new = ⊤
 LeavesJust (Some becomes) old new =

@@ -24,8 +24,7 @@ use Rattle.gaz_tables.specs.Versions as table
 use Rattle.gaz_tables.specs.Versions.{IsOfKey, IsOfKeyUntil, born_place}
 use Rattle.gaz_tables.specs.Tables.{rows_of}
 use Rattle.gaz_kept.specs.Files.{reached_in}
-use Rattle.gaz_kept.specs.Histories.{AreVersions}
-use Rattle.gaz_kept.specs.Kept.{IsKept, IsPassageRow}
+use Rattle.gaz_kept.specs.Kept.{AreVersions, IsKept, IsPassageRow}
 use Rattle.gaz_kept.specs.LastViews.{last_in}
 use Rattle.gaz_kept.specs.NewestPassages.{HasPassage, SaysPassage, SaysPassed, custody_of}
 use Rattle.gaz_kept.specs.Passages.{IsLastOf}

@@ -17,8 +17,7 @@ use Rattle.gaz_overlay.specs.declared.touch.Stood.{Stood}
 use Rattle.gaz_tables.specs.Shows.{IsGreatest, ShowsGreatest}
 use Rattle.gaz_tables.specs.Versions as table
 use Rattle.gaz_tables.specs.Versions.{FindsNewest, FindsNewestUntil, IsOfKey, IsOfKeyUntil, born_place, life_shown}
-use Rattle.gaz_kept.specs.Histories.{AreVersions}
-use Rattle.gaz_kept.specs.Kept.{IsItemRow}
+use Rattle.gaz_kept.specs.Kept.{AreVersions, IsItemRow}
 use Rattle.gaz_kept.specs.Newest.{IsLatestOf, IsNewest, IsNewestUntil, SaysLife, SaysNewest, SaysStood, row_of, stood_by, stood_of}
 use Rattle.gaz_kept.specs.Versions.{histories_in, history_in, living, number_in, text_in}
 use Rattle.gaz_kept.specs.declared.newest.Life.{Life}

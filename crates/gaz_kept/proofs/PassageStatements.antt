@@ -18,9 +18,8 @@ use Rattle.gaz_cells.specs.Ids.{id_of}
 use Rattle.gaz_overlay.specs.Passages.{PassageRow}
 use Rattle.gaz_tables.specs.Versions as table
 use Rattle.gaz_tables.specs.Versions.{Closes, IsOfBirth, gone_at}
-use Rattle.gaz_kept.specs.Histories.{AreVersions}
 use Rattle.gaz_kept.specs.Judging.{ArePassedLater}
-use Rattle.gaz_kept.specs.Kept.{IsPassageRow, IsVersion}
+use Rattle.gaz_kept.specs.Kept.{AreVersions, IsPassageRow, IsVersion}
 use Rattle.gaz_kept.specs.Passages.{ArePassedOnce, EndsPassing, InsertPasses, ended_with}
 use Rattle.gaz_kept.specs.Versions.{custody_cells_in, history_in, number_in, passage_in, passage_values, passages_in, passing, text_in}
 use Rattle.gaz_kept.proofs.CustodyFollows.{no_item, no_passage}

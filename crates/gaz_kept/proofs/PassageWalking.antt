@@ -23,9 +23,9 @@ use Rattle.gaz_overlay.specs.Passages.{PassageRow, PassOn, custody_after, has_pa
 use Rattle.gaz_overlay.specs.Rows.{never}
 use Rattle.gaz_overlay.specs.Writings.{passage_at}
 use Rattle.gaz_tables.specs.Versions.{Closes}
-use Rattle.gaz_kept.specs.Histories.{AreSame, AreVersions, Gain}
+use Rattle.gaz_kept.specs.Histories.{AreSame, Gain}
 use Rattle.gaz_kept.specs.Keeping.{AddsPassage, EndsRow, WritesNumber, WritesNumbers}
-use Rattle.gaz_kept.specs.Kept.{ArePassages, IsPassedUntil}
+use Rattle.gaz_kept.specs.Kept.{ArePassages, AreVersions, IsPassedUntil}
 use Rattle.gaz_kept.specs.NewestPassages.{HasPassage}
 use Rattle.gaz_kept.specs.Passages.{AddsPassing, EndsPassing, IsLastOf, IsLastPassage, PassagesSay, SameHistories}
 use Rattle.gaz_kept.specs.Versions.{passages_in, passing}

@@ -29,9 +29,9 @@ use Rattle.gaz_overlay.specs.Rows.{HistoryRow}
 use Rattle.gaz_sql_facts.specs.Changes.{IsAdded, IsChanged}
 use Rattle.gaz_tables.specs.Versions as table
 use Rattle.gaz_tables.specs.Versions.{IsOfBirth, gone_at}
-use Rattle.gaz_kept.specs.Histories.{AreSame, AreVersions, gone_with}
+use Rattle.gaz_kept.specs.Histories.{AreSame, gone_with}
 use Rattle.gaz_kept.specs.Judging.{AreBornLater}
-use Rattle.gaz_kept.specs.Kept.{IsItemRow, IsPassageRow, IsVersion}
+use Rattle.gaz_kept.specs.Kept.{AreVersions, IsItemRow, IsPassageRow, IsVersion}
 use Rattle.gaz_kept.specs.Versions.{cells_in, custody_cells_in, histories_in, history_in, item_in, living, number_in, passage_in, passing, text_in}
 use Rattle.gaz_kept.proofs.CustodyFollows.{CustodyFollows, custody_follows, no_item}
 

@@ -17,8 +17,8 @@ use Rattle.gaz_cells.specs.Reading.{read_cells}
 use Rattle.gaz_overlay.specs.Rows.{HistoryRow}
 use Rattle.gaz_tables.specs.Versions as table
 use Rattle.gaz_tables.specs.Versions.{Closes, gone_at}
-use Rattle.gaz_kept.specs.Histories.{AreVersions, ClosesVersion, InsertAdds, StatementsChange, gone_with}
-use Rattle.gaz_kept.specs.Kept.{IsVersion}
+use Rattle.gaz_kept.specs.Histories.{ClosesVersion, InsertAdds, StatementsChange, gone_with}
+use Rattle.gaz_kept.specs.Kept.{AreVersions, IsVersion}
 use Rattle.gaz_kept.specs.Versions.{histories_in, history_in, item_in, living, number_in, passage_in, values_of}
 use Rattle.gaz_kept.proofs.CustodyFollows.{no_passage}
 use Rattle.gaz_kept.proofs.Said.{cells_same, not_another, says}

@@ -21,9 +21,9 @@ use Rattle.gaz_kept.specs.Newest.{stood_by}
 use Rattle.gaz_kept.specs.Versions.{histories_in, history_in, living, values_of, view_in}
 use Rattle.gaz_kept.specs.declared.newest.Life.{Life}
 
--- street 101, of another sort
+-- street 101, of another type
 abbrev pub changed : Item
-changed = item.Street (record { usrn = 101; sort = 2; start = spring; end = None })
+changed = item.Street (record { usrn = 101; street_type = 2; start = spring; end = None })
 
 -- 1001 inserted street 101 in volume 1, changed it in volume 2 and deleted it in volume 4; 102 came
 -- and went in its volume 2; the street 101 of 1002 came in volume 1 and stays

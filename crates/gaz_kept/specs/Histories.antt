@@ -14,7 +14,7 @@ use Rattle.gaz_cells.specs.Ids.{id_of, kind_in}
 use Rattle.gaz_overlay.specs.Rows.{HistoryRow, view_after}
 use Rattle.gaz_sql_facts.specs.Changes.{IsAdded}
 use Rattle.gaz_tables.specs.Versions.{Closes}
-use Rattle.gaz_kept.specs.Kept.{AreInTurn, IsVersion}
+use Rattle.gaz_kept.specs.Kept.{AreInTurn, AreVersions}
 use Rattle.gaz_kept.specs.Versions.{histories_in, living, passages_in, values_of}
 
 -- the key was used, and nothing stands there that didn't
@@ -113,17 +113,14 @@ pub record AddsVersion (c : ℕ) (h : HistoryRow) (old new : List Row) : Type 0 
   pub gain : Gain h (histories_in old c) (histories_in new c)
   pub others : (d : ℕ) → d ≢ c → AreSame (histories_in old d) (histories_in new d)
   pub passages : SamePassages old new
-  pub rows : (r : Row) → Has new r → IsVersion r
+  pub rows : AreVersions new
 
 -- a row of its custodian's is gone with a volume, and no other custodian's rows change
 pub record ClosesVersion (c volume : ℕ) (h : HistoryRow) (old new : List Row) : Type 0 where
   pub close : Close h volume (histories_in old c) (histories_in new c)
   pub others : (d : ℕ) → d ≢ c → AreSame (histories_in old d) (histories_in new d)
   pub passages : SamePassages old new
-  pub rows : (r : Row) → Has new r → IsVersion r
-
-abbrev pub AreVersions : List Row → Type 0
-AreVersions rows = (r : Row) → Has rows r → IsVersion r
+  pub rows : AreVersions new
 
 abbrev pub InsertAdds : Type 0
 InsertAdds = (id : Value) (c born gone : ℕ) (x : Item) (old new : List Row)

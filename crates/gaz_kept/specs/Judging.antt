@@ -4,6 +4,7 @@ use Rattle.std.specs.FinMap as finite
 use Rattle.sqlite.specs.declared.types.Value.{Value}
 use Rattle.sqlite.specs.Order.{Row}
 use Rattle.sqlite_rules.specs.Lists.{Has}
+use Rattle.gaz_ids.specs.Limits.{last_volume}
 use Rattle.gaz_views.specs.declared.verdict.Verdict.{Verdict}
 use Rattle.gaz_keeper.specs.Board.{adds, reached, verdict_on, view_after}
 use Rattle.gaz_keeper.specs.Received.{with_file}
@@ -36,7 +37,8 @@ pub record Arrives (c volume : ℕ) (bytes : List ℕ) (old new : List Row) : Ty
 
 abbrev pub InsertArrives : Type 0
 InsertArrives = (id : Value) (c volume : ℕ) (bytes : List ℕ) (old new : List Row)
-    → 1 ≤ volume → volume ≤ 999_999 → AreFiles old → finite.get (files_in old) (c, volume) ≡ None
+    → 1 ≤ volume → volume ≤ last_volume → AreFiles old
+    → finite.get (files_in old) (c, volume) ≡ None
     → IsAdded (id ∷ unjudged c volume bytes) old new → Arrives c volume bytes old new
 
 -- ---- a volume is judged

@@ -7,6 +7,7 @@ use Rattle.sqlite.specs.Order.{Row}
 use Rattle.sqlite_rules.specs.Lists.{Has}
 use Rattle.std.specs.FinMap as finite
 use Rattle.std.specs.List.{range_with_len}
+use Rattle.gaz_ids.specs.Limits.{last_volume}
 use Rattle.gaz_records.specs.Items.{is_item}
 use Rattle.gaz_cells.specs.Custody.{custody_in}
 use Rattle.gaz_overlay.specs.Passages.{PassageRow}
@@ -43,7 +44,7 @@ pub record IsFile (r : Row) : Type 0 where
   pub place : IsWhole (file.place_of r)
   pub rule : IsWhole (file.rule_of r)
   pub first : 1 ≤ volume_in r
-  pub last : volume_in r ≤ 999_999
+  pub last : volume_in r ≤ last_volume
   pub states : number_in (file.state_of r) ≤ 2
   pub rules : number_in (file.rule_of r) ≤ 255
   pub no_place : number_in (file.state_of r) ≢ 2 → file.place_of r ≡ Int (pos 0)
@@ -94,6 +95,10 @@ pub record IsPassageRow (r : Row) : Type 0 where
 abbrev pub IsVersion : Row → Type 0
 IsVersion r = IsItemRow r ⊎ IsPassageRow r
 
+-- each row of version2 is such
+abbrev pub AreVersions : List Row → Type 0
+AreVersions rows = (r : Row) → Has rows r → IsVersion r
+
 -- ---- histories
 
 -- at no key two rows were born in one volume, and each is gone when the next is born
@@ -139,7 +144,7 @@ pub record AreKept (Tables : Type 0) (received items : List Row) : Type 0 where
   pub tables : Tables
   pub files : (r : Row) → Has received r → IsFile r
   pub first : (c : ℕ) → AreFirst received c
-  pub rows : (r : Row) → Has items r → IsVersion r
+  pub rows : AreVersions items
   pub histories : (c : ℕ) → AreThrough (reached_in received c) (histories_in items c)
   pub passages : (c : ℕ) → ArePassages (reached_in received c) (passages_in items c)
 

@@ -4,6 +4,7 @@ use Rattle.std.specs.Prelude.{option_map}
 use Rattle.sqlite.specs.declared.types.Value.TheVariants.{Int, Text}
 use Rattle.sqlite.specs.Order.{Row, column}
 use Rattle.sqlite_rules.specs.Lists.{Has}
+use Rattle.gaz_ids.specs.Limits.{last_code, last_hop}
 use Rattle.gaz_ids.specs.Numbers.{of_id}
 use Rattle.gaz_views.specs.declared.custody.Custody.{Custody}
 use Rattle.gaz_cells.specs.Custody.{custody_told}
@@ -18,8 +19,9 @@ use Rattle.gaz_kept.specs.declared.passages.Passed.{Passed}
 -- street, hop, lang and body from a column on
 abbrev pub custody_shown_in : ℕ → Row → Option Custody
 custody_shown_in at r =
-    custody_told (number_in (column r (at + 2))) (of_id 1 9999 (number_in (column r (at + 3))))
-    (of_id 1 9999 (number_in (column r (at + 4))))
+    custody_told (number_in (column r (at + 2)))
+    (of_id 1 last_code (number_in (column r (at + 3))))
+    (of_id 1 last_hop (number_in (column r (at + 4))))
 
 -- no language and no text stand in such a row
 pub record IsBare (at : ℕ) (r : Row) : Type 0 where

@@ -15,7 +15,8 @@ use Rattle.gaz_kept.specs.Numbered as numbered
 use Rattle.gaz_kept.specs.Opening.{has_name, is_like, schema_number}
 use Rattle.gaz_kept.specs.declared.refusal.StoreRefusal.{StoreRefusal}
 
--- each table of schema 1 is there and is understood, with its columns, and none of schema 2
+-- each table of schema 1 is there and is understood, with its columns, and nothing is named
+-- version2
 unfoldable pub has_first : Schema → Bool
 has_first schema =
     list_any (is_like version) schema.tables

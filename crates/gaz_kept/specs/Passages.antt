@@ -14,8 +14,8 @@ use Rattle.gaz_overlay.specs.Passages.{PassageRow, custody_after, has_passed}
 use Rattle.gaz_overlay.specs.Rows.{never}
 use Rattle.gaz_sql_facts.specs.Changes.{IsAdded}
 use Rattle.gaz_tables.specs.Versions.{Closes}
-use Rattle.gaz_kept.specs.Histories.{AreSame, AreVersions, Gain}
-use Rattle.gaz_kept.specs.Kept.{ArePassages, IsVersion}
+use Rattle.gaz_kept.specs.Histories.{AreSame, Gain}
+use Rattle.gaz_kept.specs.Kept.{ArePassages, AreVersions}
 use Rattle.gaz_kept.specs.Versions.{histories_in, passage_values, passages_in, passing}
 
 -- ---- what a statement makes of the rows
@@ -38,14 +38,14 @@ pub record AddsPassing (c : ℕ) (p : PassageRow) (old new : List Row) : Type 0 
   pub gain : Gain p (passages_in old c) (passages_in new c)
   pub others : (d : ℕ) → d ≢ c → AreSame (passages_in old d) (passages_in new d)
   pub histories : SameHistories old new
-  pub rows : (r : Row) → Has new r → IsVersion r
+  pub rows : AreVersions new
 
 -- a row of its custodian's is gone with a volume, and no other custodian's rows change
 pub record EndsPassing (c volume : ℕ) (p : PassageRow) (old new : List Row) : Type 0 where
   pub ends : Ends p volume (passages_in old c) (passages_in new c)
   pub others : (d : ℕ) → d ≢ c → AreSame (passages_in old d) (passages_in new d)
   pub histories : SameHistories old new
-  pub rows : (r : Row) → Has new r → IsVersion r
+  pub rows : AreVersions new
 
 -- of a number no two rows were born in one volume
 abbrev pub ArePassedOnce : List PassageRow → Type 0

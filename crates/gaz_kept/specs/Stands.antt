@@ -1,6 +1,7 @@
 -- What creation, a file and a rejection make of what the tables stand for.
 use Rattle.std.specs.Prelude.{◌≡◌, ◌≤◌, ◌+◌, ℕ, pos, List}
 use Rattle.sqlite.specs.Effect.{Database}
+use Rattle.gaz_ids.specs.Limits.{last_volume}
 use Rattle.gaz_views.specs.View.{View, empty_view}
 use Rattle.gaz_keeper.specs.Keeper.{Content, IsAtHand, IsNew, after_skip, empty_content}
 use Rattle.gaz_keeper.specs.Keeper.{with_received}
@@ -26,7 +27,7 @@ CreateStands = (number : ℕ) (register : List ℕ) (old db : Database)
 -- a file that is new is received
 abbrev pub ReceiveStands : Type 0
 ReceiveStands = (c volume : ℕ) (bytes : List ℕ) (working : View) (old new : Database)
-    → 1 ≤ volume → volume ≤ 999_999
+    → 1 ≤ volume → volume ≤ last_volume
     → IsKept old → IsNew (content_in old working) c volume
     → ChangesTable received (AddsRow (unjudged c volume bytes)) old new
     → Stands new working (with_received (content_in old working) c volume bytes)

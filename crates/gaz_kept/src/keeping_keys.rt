@@ -10,6 +10,7 @@ ghost use Rattle.gaz_kept.specs.Keeping.{WritesVersions, row_values};
 ghost use Rattle.gaz_kept.specs.Versions.{values_of};
 
 use crate::decoding::{kind_in, name_of};
+use crate::newest::NEVER;
 use crate::row_cells::{RowCells, cells_of, error_of, narrow};
 use gaz_ids::{Code, Volume};
 use gaz_overlay::{NewRow, Overlay};
@@ -17,9 +18,6 @@ use gaz_records::{Item, Key};
 use gaz_tables::versions;
 use sqlite::{Alter, Error, Transaction};
 use std::alloc::Global;
-
-// `gone` of a row that is current.
-pub(crate) const NEVER: u32 = 1_000_000;
 
 // Adds a row of these cells, within a transaction.
 pub(crate) fn insert_cells<S: Alter>(
@@ -76,7 +74,7 @@ fn gone_of(row: &NewRow, volume: Volume) -> u32
     ensures { result ≡ (if row.now.current then never else volume) }
 {
     if row.current {
-        NEVER
+        NEVER as u32
     } else {
         volume.number() as u32
     }

@@ -1,5 +1,6 @@
 //! What became of the numbers that a judgement passed on, written as a custodian's next volume.
 ghost use Rattle.std.specs.Prelude.{◌≡◌, ◌&&◌, true};
+ghost use Rattle.gaz_ids.specs.Limits.{last_code, last_hop};
 ghost use Rattle.gaz_ids.specs.Numbers.{in_range};
 ghost use Rattle.gaz_records.specs.Blpus.{is_uprn};
 ghost use Rattle.gaz_cells.specs.Custody.{is_custody};
@@ -8,17 +9,16 @@ ghost use Rattle.gaz_tables.specs.Stores.{StaysInside};
 ghost use Rattle.gaz_kept.specs.Keeping.{AddsPassage, EndsRow, WritesNumber, WritesNumbers};
 ghost use Rattle.gaz_kept.specs.Keeping.{WritesVersions};
 
-use crate::keeping_keys::{NEVER, end_born, insert_cells};
+use crate::keeping_keys::{end_born, insert_cells};
+use crate::newest::NEVER;
 use crate::row_cells::passage_cells;
+use gaz_cells::CUSTODY;
 use gaz_ids::{Code, Hop, Uprn, Volume};
 use gaz_overlay::Overlay;
 use gaz_records::Key;
 use gaz_views::Custody;
 use sqlite::{Alter, Error, Transaction};
 use std::alloc::Global;
-
-// The kind of a row that says what became of a number.
-const CUSTODY: u32 = 92;
 
 // A number is one of a property.
 #[tactic(auto, using(std::proofs::lemmas::Bool::Decides::nat_tests))]
@@ -31,7 +31,7 @@ fn number_known(uprn: Uprn)
 // A code and a hop are such.
 #[tactic(auto, using(std::proofs::lemmas::Bool::Decides::nat_tests))]
 fn pair_known(code: Code, hop: Hop)
-    ensures { (in_range 1 9999 code && in_range 1 9999 hop) ≡ true }
+    ensures { (in_range 1 last_code code && in_range 1 last_hop hop) ≡ true }
 {
     let _code = code.number();
     let _hop = hop.number();
@@ -64,7 +64,7 @@ fn add_passage<S: Alter>(
     number_known(uprn);
     custody_known(custody);
     let cells = passage_cells(alloc, uprn, custody)?;
-    insert_cells(tx, code, volume, NEVER, cells)
+    insert_cells(tx, code, volume, NEVER as u32, cells)
 }
 
 // Ends the row of a number that was born in a volume, where one is to end, within a transaction.
@@ -84,7 +84,7 @@ fn end_row<S: Alter>(
     match closes {
         Some(born) => {
             let key = Key::Blpu(uprn);
-            end_born(tx, alloc, code, volume, CUSTODY, &key, born)
+            end_born(tx, alloc, code, volume, CUSTODY as u32, &key, born)
         }
         None => Ok(()),
     }

@@ -66,7 +66,7 @@ fn from_first<S: Alter>(
     }
 }
 
-/// Whether the tables of schema 1 are there, with their columns, and none of schema 2.
+/// Whether the tables of schema 1 are there, with their columns, and nothing is named `version2`.
 pub fn is_first<S: Alter>(conn: &Connection<S>) -> bool
     ensures { result ≡ has_first (state S.Store conn.now).now.schema }
 {

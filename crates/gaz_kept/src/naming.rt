@@ -119,7 +119,7 @@ pub(crate) fn has_all(schema: &Schema) -> bool
     has_version2(tables) & (has_received(tables) & has_meta(tables))
 }
 
-// Whether each table of schema 1 is there, with its columns, and none of schema 2.
+// Whether each table of schema 1 is there, with its columns, and nothing is named `version2`.
 #[tactic(auto, unfolding(crate::specs::OpeningFirst::has_first))]
 pub(crate) fn has_first(schema: &Schema) -> bool
     ensures { result ≡ has_first schema.now }

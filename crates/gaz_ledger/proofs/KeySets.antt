@@ -9,7 +9,7 @@ use Rattle.std.specs.List.Sorted.{IsStrictlySortedBy}
 use Rattle.std.specs.Ordering.{eq_by_cmp, is_eq}
 use Rattle.std.specs.declared.cmp.Ordering.{Ordering}
 use Rattle.std.specs.declared.cmp.Ordering.TheVariants.{Less, Equal, Greater}
-use Rattle.gaz_records.proofs.KeyOrder.{keys_exact, keys_same, keys_total}
+use Rattle.gaz_records.proofs.KeyOrder.{keys_exact, keys_total}
 use Rattle.gaz_records.specs.Keys.{key_cmp}
 use Rattle.gaz_records.specs.contracts.key.KeyOrd.TheImpl.{cmp-value as key-value}
 use Rattle.gaz_records.specs.declared.key.Key.{Key}
@@ -19,9 +19,6 @@ use Rattle.gaz_ledger.specs.declared.keys.Keys.{Keys}
 
 abbrev same : Key → Key → Bool
 same a b = eq_by_cmp key_cmp a b
-
-abbrev is_in : List Key → Key → Bool
-is_in ks k = list_any (is_at (key-value.it k)) ks
 
 -- the keys of what is kept at a mark
 abbrev pub kept_keys : Option Keys → List Key
@@ -38,14 +35,11 @@ same_key a b e = keys_exact a b (is_equal _ e)
 turned : (a b : Key) → same a b ≡ same b a
 turned a b = (eq_by_cmp_equiv keys_total).symm a b
 
-in_order : (ks : List Key) (k : Key) → has_key ks k ≡ is_in ks k
-in_order ks k = any-is keys_same ks k
-
 pub one_ascends : (k : Key) → IsStrictlySortedBy key-value.it (k ∷ [])
 unfolding IsStrictlySortedBy
 one_ascends k = (tt, tt)
 
--- ---- a tree set
+-- ---- a tree set, kept in an order that is that of keys
 
 or_cond : (a b : Bool) → cond a true b ≡ (a || b)
 or_cond true b = refl
@@ -55,16 +49,23 @@ and_cond : (a b : Bool) → cond a false b ≡ (not a && b)
 and_cond true b = refl
 and_cond false b = refl
 
-pub added : (ks ls : List Key) (key : Key) → ((k : Key) → is_in ls k ≡ cond (is_at (key-value.it key) k) true (is_in ks k)) → (k : Key) → has_key ls k ≡ (same key k || has_key ks k)
-added ks ls key more k = in_order ls k ∙ more k ∙ (λ i. cond (is_eq (keys_same key k i)) true (sym (in_order ks k) i)) ∙ or_cond (same key k) (has_key ks k)
+module _ {S : Key → Key → Ordering} (alike : (a b : Key) → S a b ≡ key_cmp a b) where
+  abbrev is_in : List Key → Key → Bool
+  is_in ks k = list_any (is_at (S k)) ks
 
-pub taken : (ks ls : List Key) (key : Key) → ((k : Key) → is_in ls k ≡ cond (is_at (key-value.it key) k) false (is_in ks k)) → (k : Key) → has_key ls k ≡ (not (same key k) && has_key ks k)
-taken ks ls key less k = in_order ls k ∙ less k ∙ (λ i. cond (is_eq (keys_same key k i)) false (sym (in_order ks k) i)) ∙ and_cond (same key k) (has_key ks k)
+  in_order : (ks : List Key) (k : Key) → has_key ks k ≡ is_in ks k
+  in_order ks k = any-is alike ks k
 
-pub two : (none mid ls : List Key) (one other : Key) → none ≡ [] → ((k : Key) → is_in mid k ≡ cond (is_at (key-value.it one) k) true (is_in none k))
-    → ((k : Key) → is_in ls k ≡ cond (is_at (key-value.it other) k) true (is_in mid k)) → (k : Key) → has_key ls k ≡ (same other k || has_key (one ∷ []) k)
-two none mid ls one other empty first second k =
-    added mid ls other second k ∙ ap (λ b. same other k || b) (added none mid one first k ∙ (λ i. turned one k i || has_key (empty i) k))
+  pub added : (ks ls : List Key) (key : Key) → ((k : Key) → is_in ls k ≡ cond (is_at (S key) k) true (is_in ks k)) → (k : Key) → has_key ls k ≡ (same key k || has_key ks k)
+  added ks ls key more k = in_order ls k ∙ more k ∙ (λ i. cond (is_eq (alike key k i)) true (sym (in_order ks k) i)) ∙ or_cond (same key k) (has_key ks k)
+
+  pub taken : (ks ls : List Key) (key : Key) → ((k : Key) → is_in ls k ≡ cond (is_at (S key) k) false (is_in ks k)) → (k : Key) → has_key ls k ≡ (not (same key k) && has_key ks k)
+  taken ks ls key less k = in_order ls k ∙ less k ∙ (λ i. cond (is_eq (alike key k i)) false (sym (in_order ks k) i)) ∙ and_cond (same key k) (has_key ks k)
+
+  pub two : (none mid ls : List Key) (one other : Key) → none ≡ [] → ((k : Key) → is_in mid k ≡ cond (is_at (S one) k) true (is_in none k))
+      → ((k : Key) → is_in ls k ≡ cond (is_at (S other) k) true (is_in mid k)) → (k : Key) → has_key ls k ≡ (same other k || has_key (one ∷ []) k)
+  two none mid ls one other empty first second k =
+      added mid ls other second k ∙ ap (λ b. same other k || b) (added none mid one first k ∙ (λ i. turned one k i || has_key (empty i) k))
 
 -- ---- one key
 

@@ -14,7 +14,7 @@ pub mod Passing
 pub mod Marked
 pub mod Known
 pub mod Ranges
-pub mod Tied
+pub mod TieFacts
 pub mod Ledgers
 pub mod Closings
 pub mod Lives

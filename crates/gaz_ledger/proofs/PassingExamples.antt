@@ -21,12 +21,13 @@ use Rattle.gaz_views.proofs.Emptiness.{no_custody}
 use Rattle.gaz_views.specs.View.{custody_at, empty_view, was_used}
 use Rattle.gaz_views.specs.declared.custody.Custody.{Custody}
 use Rattle.gaz_views.specs.declared.custody.Custody.TheVariants.{Adopted, Released}
+use Rattle.gaz_views.specs.Words.{blpu_named}
 use Rattle.gaz_ledger.proofs.Becoming.{passed_after}
 use Rattle.gaz_ledger.proofs.KeyHistories.{contains_at, get_at}
 use Rattle.gaz_ledger.specs.Custodies.{IsPassing, passed_at, view_with}
 use Rattle.gaz_ledger.specs.PassingExamples.{WorkedPassing, WorkedTies, its_key, renamed, two_passings}
 use Rattle.gaz_ledger.specs.KeyHistories.{versions_at}
-use Rattle.gaz_ledger.specs.Ties.{named_by, names_at}
+use Rattle.gaz_ledger.specs.Ties.{names_at}
 
 abbrev passings : Versions Custody
 passings = (1, Some (Released 1002 1)) ∷ (3, Some (Adopted 1002 2)) ∷ []
@@ -118,8 +119,8 @@ xref_stood : versions_at renamed its_xref ≡ naming
 xref_stood =
     ap (λ (o : Option (Versions Item)). unwrap_or o []) (map.get-insert keys_total map.empty its_xref naming its_xref ∙ ap (λ (b : Bool). cond b (Some naming) (map.get {R = key_cmp} map.empty its_xref)) ((eq_by_cmp_equiv keys_total).refl its_xref))
 
-xref_names : (volume uprn : ℕ) → names_at renamed volume uprn its_xref ≡ option_map_or (λ n. n == uprn) (option_and_then named_by (standing_at naming volume)) false
-xref_names volume uprn = ap (λ (vs : Versions Item). option_map_or (λ n. n == uprn) (option_and_then named_by (standing_at vs volume)) false) xref_stood
+xref_names : (volume uprn : ℕ) → names_at renamed volume uprn its_xref ≡ option_map_or (λ n. n == uprn) (option_and_then blpu_named (standing_at naming volume)) false
+xref_names volume uprn = ap (λ (vs : Versions Item). option_map_or (λ n. n == uprn) (option_and_then blpu_named (standing_at vs volume)) false) xref_stood
 
 pub tie_examples : WorkedTies
 tie_examples = record {

@@ -4,7 +4,7 @@ use Rattle.std.specs.Prelude.{not, if◌then◌else◌, List}
 use Rattle.std.specs.Prelude.{Option, None, Some, option_map, slice_get, filter}
 use Rattle.std.specs.Option.{option_map_or}
 use Rattle.std.specs.Ordering.{eq_by_cmp}
-use Rattle.gaz_histories.specs.Histories.{before}
+use Rattle.gaz_histories.specs.Histories.{before, with_version}
 use Rattle.gaz_records.specs.Keys.{key_cmp}
 use Rattle.gaz_records.specs.declared.item.Item.{Item}
 use Rattle.gaz_records.specs.declared.key.Key.{Key}
@@ -42,7 +42,7 @@ verdict_in a volume =
 -- from a volume on this item stands at the key, or none
 abbrev pub SetsAt : KeyHistories → KeyHistories → ℕ → Key → Option Item → Type 0
 SetsAt old new volume key item =
-    ChangesAt old new key (before (versions_at old key) volume ++ (volume, item) ∷ [])
+    ChangesAt old new key (with_version (versions_at old key) volume item)
 
 -- what began at a volume or after it is forgotten at the key
 abbrev pub CutsAt : KeyHistories → KeyHistories → ℕ → Key → Type 0

@@ -11,10 +11,11 @@ use Rattle.gaz_views.specs.View.{custody_at, empty_view, holds, was_used, with_a
 use Rattle.gaz_views.specs.View.{with_release}
 use Rattle.gaz_views.specs.declared.custody.Custody.TheVariants.{Adopted, Released}
 use Rattle.gaz_views.specs.Numbered.{with_adopted}
+use Rattle.gaz_views.specs.Words.{blpu_named}
 use Rattle.gaz_ledger.specs.Custodies.{Custodies, IsPassing, view_with, with_passing}
 use Rattle.gaz_ledger.specs.KeyHistories.{KeyHistories}
 use Rattle.gaz_ledger.specs.Passages.{with_passage}
-use Rattle.gaz_ledger.specs.Ties.{named_by, names_at}
+use Rattle.gaz_ledger.specs.Ties.{names_at}
 
 -- number 500, where no BLPU ever stood, released to 1002 with volume 1, and adopted with volume 3
 abbrev pub two_passings : Custodies
@@ -63,10 +64,10 @@ renamed =
     ((1, Some (council_tax (codes "X1") 1001)) ∷ (3, Some (council_tax (codes "X1") 1002)) ∷ [])
 
 pub record WorkedTies : Type 0 where
-  pub cross_reference : named_by (council_tax (codes "X1") 1001) ≡ Some 1001
-  pub another_name : named_by (lpi (codes "L2") 1001 Eng Alternative 101) ≡ Some 1001
-  pub its_address : named_by (lpi (codes "L2") 1001 Eng Approved 101) ≡ Some 1001
-  pub its_part : named_by (blpu 1002 (Some 1001)) ≡ None
+  pub cross_reference : blpu_named (council_tax (codes "X1") 1001) ≡ Some 1001
+  pub another_name : blpu_named (lpi (codes "L2") 1001 Eng Alternative 101) ≡ Some 1001
+  pub its_address : blpu_named (lpi (codes "L2") 1001 Eng Approved 101) ≡ Some 1001
+  pub its_part : blpu_named (blpu 1002 (Some 1001)) ≡ None
   pub not_yet : names_at renamed 0 1001 (key.Xref (codes "X1")) ≡ false
   pub names : names_at renamed 2 1001 (key.Xref (codes "X1")) ≡ true
   pub another : names_at renamed 2 1002 (key.Xref (codes "X1")) ≡ false

@@ -1,5 +1,5 @@
 -- Where the items that name a BLPU are found, once that is asked for.
-use Rattle.std.specs.Prelude.{◌≡◌, ◌==◌, ◌&&◌, ◌||◌, [], ℕ, Bool, true, false, List}
+use Rattle.std.specs.Prelude.{◌≡◌, ◌==◌, ◌&&◌, ◌||◌, ◌∷◌, [], ℕ, Bool, true, false, List}
 use Rattle.std.specs.Prelude.{Option, Some, None}
 use Rattle.std.specs.Map.{lookup}
 use Rattle.std.specs.Option.{option_and_then, option_map_or}
@@ -9,22 +9,19 @@ use Rattle.gaz_records.specs.Keys.{key_cmp}
 use Rattle.gaz_records.specs.declared.item.Item.{Item}
 use Rattle.gaz_records.specs.declared.item.Item.TheVariants as item
 use Rattle.gaz_records.specs.declared.key.Key.{Key}
+use Rattle.gaz_views.specs.Words.{blpu_named}
 use Rattle.gaz_ledger.specs.Indexes.{has_key}
 use Rattle.gaz_ledger.specs.KeyHistories.{KeyHistories, versions_at}
+use Rattle.gaz_ledger.specs.declared.tied.Tied.{Tied}
+use Rattle.gaz_ledger.specs.declared.tied.Tied.TheVariants.{One, Many}
 use Rattle.gaz_ledger.specs.declared.tied_keys.TiedKeys.{TiedKeys}
 use Rattle.gaz_ledger.specs.declared.ties.Ties.{Ties}
 
 -- ---- what items name
 
--- the BLPU of a cross reference or of an LPI, of whatever status
-abbrev pub named_by : Item → Option ℕ
-named_by (item.Xref x) = Some x.uprn
-named_by (item.Lpi l) = Some l.uprn
-named_by _ = None
-
 -- the BLPU that the item at a key names, after a volume
 abbrev pub named_at : KeyHistories → ℕ → Key → Option ℕ
-named_at g volume k = option_and_then named_by (standing_at (versions_at g k) volume)
+named_at g volume k = option_and_then blpu_named (standing_at (versions_at g k) volume)
 
 -- the item at a key names this BLPU, after a volume
 abbrev pub names_at : KeyHistories → ℕ → ℕ → Key → Bool
@@ -32,8 +29,13 @@ names_at g volume uprn k = option_map_or (λ n. n == uprn) (named_at g volume k)
 
 -- ---- keys under the BLPU that their items name
 
+-- keys in their order
+abbrev pub keys_in : Tied → List Key
+keys_in (One k) = k ∷ []
+keys_in (Many s) = s.keys
+
 abbrev pub keys_tied : TiedKeys → ℕ → List Key
-keys_tied t uprn = option_map_or (λ ks. ks.keys) (lookup (λ n. uprn == n) t.by_uprn.entries) []
+keys_tied t uprn = option_map_or keys_in (lookup (λ n. uprn == n) t.by_uprn.entries) []
 
 abbrev pub is_tied : TiedKeys → ℕ → Key → Bool
 is_tied t uprn k = has_key (keys_tied t uprn) k
@@ -72,4 +74,4 @@ AreTies t g reached working = FindsTies t g reached × FindsTies t g working
 -- names
 pub record NotesTie (old new : Ties) (i : Option Item) (key : Key) : Type 0 where
   pub kept : (n : ℕ) → (k : Key) → may_tie old n k ≡ true → may_tie new n k ≡ true
-  pub noted : (n : ℕ) → option_and_then named_by i ≡ Some n → may_tie new n key ≡ true
+  pub noted : (n : ℕ) → option_and_then blpu_named i ≡ Some n → may_tie new n key ≡ true

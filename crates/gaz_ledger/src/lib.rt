@@ -20,6 +20,7 @@ mod properties;
 mod restoring;
 mod restoring_passage;
 mod seed;
+mod tied;
 mod tied_keys;
 mod ties;
 mod words;

@@ -4,17 +4,18 @@ ghost use Rattle.std.specs.List.{list_any};
 ghost use Rattle.std.specs.Option.{option_and_then};
 ghost use Rattle.gaz_histories.specs.Histories.{standing_at};
 ghost use Rattle.gaz_records.specs.declared.key.Key.{Key};
-ghost use Rattle.gaz_ledger.specs.Ties.{IsTiedTo, KeepsTies, named_at, named_by, names_at};
+ghost use Rattle.gaz_views.specs.Words.{blpu_named};
+ghost use Rattle.gaz_ledger.specs.Ties.{IsTiedTo, KeepsTies, keys_in, named_at, names_at};
 
 use crate::histories::Histories;
 use crate::seed::Seed;
+use crate::tied::Tied;
 use crate::tied_keys::TiedKeys;
-use crate::words::named_by;
+use crate::words::blpu_named;
 use gaz_histories::History;
 use gaz_ids::Uprn;
 use gaz_records::{SharedItem, SortKey};
 use std::alloc::AllocError;
-use std::collections::HashSet;
 
 impl Histories {
     // The BLPU that the item at a key names after a volume.
@@ -38,15 +39,20 @@ impl Histories {
     }
 
     /// Whether the item at one of these keys names a BLPU after a volume.
-    pub fn any_names(&self, volume: u64, uprn: Uprn, keys: &HashSet<SortKey, Seed>) -> bool
-        ensures { result ≡ list_any (names_at self.now volume uprn) keys.now.keys }
+    pub fn any_names(&self, volume: u64, uprn: Uprn, keys: &Tied) -> bool
+        ensures { result ≡ list_any (names_at self.now volume uprn) (keys_in keys.now) }
     {
-        for key in keys {
-            if self.names(volume, uprn, key) {
-                return true;
+        match keys {
+            Tied::One(key) => self.names(volume, uprn, key),
+            Tied::Many(keys) => {
+                for key in keys {
+                    if self.names(volume, uprn, key) {
+                        return true;
+                    }
+                }
+                false
             }
         }
-        false
     }
 
     // Adds a key under the BLPUs that its items name after a volume and after the next one.
@@ -81,10 +87,10 @@ impl Histories {
 
 // The BLPU that the item in a history names after a volume.
 fn named_in(history: &History<SharedItem>, volume: u64) -> Option<Uprn>
-    ensures { result ≡ option_and_then named_by (standing_at history.now volume) }
+    ensures { result ≡ option_and_then blpu_named (standing_at history.now volume) }
 {
     match history.standing_at(volume) {
-        Some(item) => named_by(item),
+        Some(item) => blpu_named(item),
         None => None,
     }
 }

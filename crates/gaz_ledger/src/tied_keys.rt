@@ -1,19 +1,20 @@
 //! Keys by the BLPU that their items name.
 ghost use Rattle.std.specs.Prelude.{◌≡◌, [], OnOk, ℕ};
 ghost use Rattle.std.specs.Option.{option_map_or};
-ghost use Rattle.gaz_ledger.specs.Ties.{AddsTie, IsTiedTo, KeepsTies, keys_tied};
+ghost use Rattle.gaz_ledger.specs.Ties.{AddsTie, IsTiedTo, KeepsTies, keys_in, keys_tied};
 
 use crate::seed::Seed;
+use crate::tied::Tied;
 use gaz_ids::Uprn;
 use gaz_records::SortKey;
 use std::alloc::{AllocError, Global};
-use std::collections::{HashMap, HashSet};
+use std::collections::HashMap;
 
 /// Keys of cross references and LPIs, and some at which none stands any more.
 #[derive(Drop)]
 pub struct TiedKeys {
     alloc: Global,
-    by_uprn: HashMap<Uprn, HashSet<SortKey, Seed>, Seed>,
+    by_uprn: HashMap<Uprn, Tied, Seed>,
 }
 
 impl TiedKeys {
@@ -28,8 +29,8 @@ impl TiedKeys {
     }
 
     /// The keys under a BLPU.
-    pub fn get(&self, uprn: Uprn) -> Option<&HashSet<SortKey, Seed>>
-        ensures { option_map_or (λ ks. ks.now.keys) result [] ≡ keys_tied self.now uprn }
+    pub fn get(&self, uprn: Uprn) -> Option<&Tied>
+        ensures { option_map_or (λ ks. keys_in ks.now) result [] ≡ keys_tied self.now uprn }
     {
         self.by_uprn.get(&uprn)
     }
@@ -38,10 +39,8 @@ impl TiedKeys {
     fn add(&mut self, uprn: Uprn, key: SortKey) -> Result<(), AllocError>
         ensures { OnOk result (AddsTie self.old self.new uprn key) }
     {
-        let none = HashSet::with_hasher(self.alloc, *self.by_uprn.hasher());
-        let keys = self.by_uprn.entry(uprn)?.or_insert(none);
-        keys.insert(key)?;
-        Ok(())
+        let keys = self.by_uprn.entry(uprn)?.or_insert(Tied::One(key));
+        keys.insert(self.alloc, key)
     }
 
     /// Adds a key under a BLPU, where one is given.

@@ -8,7 +8,7 @@ ghost use Rattle.gaz_ledger.specs.Ties.{AreTies, FindsTies, NotesTie};
 use crate::histories::Histories;
 use crate::seed::Seed;
 use crate::tied_keys::TiedKeys;
-use crate::words::named_by;
+use crate::words::blpu_named;
 use gaz_ids::Uprn;
 use gaz_records::{Key, SharedItem, SortKey};
 use std::alloc::AllocError;
@@ -53,7 +53,7 @@ impl Ties {
         let Some(keys) = &mut self.counted else {
             return;
         };
-        let added = keys.add_some(named_by(item), SortKey::of(key));
+        let added = keys.add_some(blpu_named(item), SortKey::of(key));
         self.noted = self.noted.saturating_add(1);
         if added.is_err() {
             self.counted = None;

@@ -3,11 +3,11 @@ ghost use Rattle.std.specs.Prelude.{◌≡◌, ◌≤◌, drop, filter, length, 
 ghost use Rattle.std.specs.Prelude.{IfOk, None, option_map};
 ghost use Rattle.std.specs.List.Sorted.{IsStrictlySortedBy};
 ghost use Rattle.gaz_records.specs.Keys.{key_cmp};
-ghost use Rattle.gaz_views.specs.Words.{comes_after, is_approved_of, is_approved_on, is_child_of};
+ghost use Rattle.gaz_views.specs.Words.{blpu_named, comes_after, is_approved_of};
+ghost use Rattle.gaz_views.specs.Words.{is_approved_on, is_child_of};
 ghost use Rattle.gaz_views.specs.Words.{is_in, is_of};
 ghost use Rattle.gaz_ledger.specs.KeyHistories.{item_of_kind, items_after, rows_at, with_versions};
 ghost use Rattle.gaz_ledger.specs.Ranges.{is_past};
-ghost use Rattle.gaz_ledger.specs.Ties.{named_by};
 
 use crate::seed::Seed;
 use gaz_histories::History;
@@ -59,8 +59,8 @@ pub fn is_child_of(uprn: Uprn, item: &Item) -> bool
 }
 
 /// The BLPU that a cross reference or an LPI names.
-pub fn named_by(item: &Item) -> Option<Uprn>
-    ensures { result ≡ named_by item.now }
+pub fn blpu_named(item: &Item) -> Option<Uprn>
+    ensures { result ≡ blpu_named item.now }
 {
     match item {
         Item::Xref(xref) => Some(xref.uprn),

@@ -43,7 +43,7 @@ pub record IsEntered (c volume : ℕ) (verdict : Verdict) (old new : Content) : 
 abbrev pub AreThere : ℕ → List ℕ → Received → Type 0
 AreThere c volumes files = (v : ℕ) → Has volumes v → IsSome (map.get files (c, v))
 
--- all volumes that are received of a custodian, from 1 on
+-- each volume from 1 on that is kept of a custodian is at hand
 abbrev pub HasAll : ℕ → Received → Received → Type 0
 HasAll c kept now =
     (v : ℕ) → 1 ≤ v → IsSome (map.get kept (c, v)) → IsSome (map.get now (c, v))

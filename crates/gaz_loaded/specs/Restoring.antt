@@ -9,7 +9,7 @@ use Rattle.gaz_shelf.specs.Restoring.{IsPassageRestored, IsRestored}
 use Rattle.gaz_loaded.specs.declared.listed.Life.{Life}
 use Rattle.gaz_loaded.specs.declared.listed.Passage.{Passage}
 
--- one after another
+-- these lives are restored on a board, one after another
 abbrev pub AreRestored : Board → List Life → Board → Type 0
 AreRestored old [] new = new ≡ old
 AreRestored old (x ∷ more) new =
@@ -21,7 +21,7 @@ IsBare board = (c volume : ℕ) → view_after board c volume ≡ empty_view
 
 -- ---- what became of numbers
 
--- one after another
+-- this became of a custodian's numbers, put back on a board one after another
 abbrev pub ArePutBack : ℕ → Board → List Passage → Board → Type 0
 ArePutBack c old [] new = new ≡ old
 ArePutBack c old (x ∷ more) new =

@@ -29,8 +29,8 @@ fn bring_to_hand(shelf: &mut MemShelf, codes: &[Code])
 /// foresee the seed.
 ///
 /// Nothing is judged: files and verdicts, what became of numbers, and items come as they are kept,
-/// each once. A fault where memory or the keeper failed, or where what it lists isn't in order; it
-/// is only read.
+/// each once. `Memory` where memory ran out, or where what the keeper lists isn't in order, since
+/// that is no failure that it counts; else the keeper's own fault. It is only read.
 pub fn load<L: Listed>(
     alloc: Global,
     seed: Seed,

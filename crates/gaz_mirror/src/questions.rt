@@ -1,4 +1,4 @@
-//! What a keeper can be asked of its board.
+//! What a keeper can be asked.
 ghost use Rattle.std.specs.Prelude.{ℕ};
 ghost use Rattle.gaz_keeper.specs.Keeper.{Content, Reads, view_of};
 ghost use Rattle.gaz_views.specs.View.{View};

@@ -7,11 +7,11 @@ use Rattle.gaz_ids.specs.declared.lang.Lang.{Lang}
 use Rattle.gaz_ids.specs.declared.status.Status.{Status}
 use Rattle.gaz_addressable.specs.Texts.{is_text}
 use Rattle.gaz_addressable.specs.Objects.{ObjectValue, is_object, is_text_or_none}
-use Rattle.gaz_records.specs.Days.{CivilDay, are_days, ends_by, is_day}
+use Rattle.gaz_records.specs.Days.{CivilDay, is_day_or_none, ends_by, is_day}
 use Rattle.gaz_records.specs.Fields.{field}
 use Rattle.gaz_records.specs.Forms.{Digits, of_blpu, says}
 use Rattle.gaz_records.specs.Labels.{is_label}
-use Rattle.gaz_records.specs.Streets.{StreetValue, is_sort, is_street, is_usrn, read_street, street_texts}
+use Rattle.gaz_records.specs.Streets.{StreetValue, is_type_number, is_street, is_usrn, read_street, street_texts}
 use Rattle.gaz_records.specs.Descriptors.{DescriptorValue, descriptor_texts, is_descriptor, read_descriptor}
 use Rattle.gaz_records.specs.Blpus.{BlpuValue, blpu_texts, is_blpu, is_parent, is_uprn, read_blpu}
 use Rattle.gaz_records.specs.Xrefs.{XrefValue, is_xref, read_xref, xref_texts}
@@ -36,14 +36,14 @@ code-says f i n at h = says-number f i 4 1 9999 n at (lit< tt) (lit< tt) (lit< t
 from-zero : (n high : ℕ) → nat_le n high ≡ true → (nat_le 0 n && nat_le n high) ≡ true
 from-zero n high h = grind (arith, nat_tests, h)
 
-street-back : (x : StreetValue) → is_usrn x.usrn ≡ true → is_sort x.sort ≡ true → is_day x.start ≡ true → are_days x.end ≡ true → ends_by x.start x.end ≡ true
+street-back : (x : StreetValue) → is_usrn x.usrn ≡ true → is_type_number x.street_type ≡ true → is_day x.start ≡ true → is_day_or_none x.end ≡ true → ends_by x.start x.end ≡ true
     → read_street (street_texts x) ≡ Ok x
 unfolding read_street field_at
-street-back x usrn sort start end order =
+street-back x usrn street_type start end order =
     let f = street_texts x in
     rw (
       usrn-says f 0 x.usrn refl usrn,
-      says-number f 1 1 1 4 x.sort refl (lit< tt) (lit< tt) (lit< tt) sort,
+      says-number f 1 1 1 4 x.street_type refl (lit< tt) (lit< tt) (lit< tt) street_type,
       says-day f 2 x.start refl start,
       says-end f 3 x.start x.end refl refl start end order,
     ) refl
@@ -78,7 +78,7 @@ descriptor_fields x h =
     descriptor-back x (and-left _ _ h3) (and-right _ _ h3) (and-right _ _ h2) (and-right _ _ h1) (and-right _ _ h)
 
 blpu-back : (x : BlpuValue) → is_uprn x.uprn ≡ true → is_some (of_blpu x.status) ≡ true → nat_le x.easting 700_000 ≡ true → nat_le x.northing 1_300_000 ≡ true
-    → is_parent x.parent ≡ true → is_text_or_none 8 x.postcode ≡ true → is_day x.start ≡ true → are_days x.end ≡ true → ends_by x.start x.end ≡ true
+    → is_parent x.parent ≡ true → is_text_or_none 8 x.postcode ≡ true → is_day x.start ≡ true → is_day_or_none x.end ≡ true → ends_by x.start x.end ≡ true
     → read_blpu (blpu_texts x) ≡ Ok x
 unfolding read_blpu field_at
 blpu-back x uprn status easting northing parent postcode start end order =
@@ -106,7 +106,7 @@ blpu_fields x h =
     blpu-back x (and-left _ _ h7) (and-right _ _ h7) (and-right _ _ h6) (and-right _ _ h5) (and-right _ _ h4) (and-right _ _ h3) (and-right _ _ h2) (and-right _ _ h1) (and-right _ _ h)
 
 xref-back : (x : XrefValue) → is_label 14 x.key ≡ true → is_uprn x.uprn ≡ true → is_label 6 x.source ≡ true → is_text 50 x.reference ≡ true
-    → is_day x.start ≡ true → are_days x.end ≡ true → ends_by x.start x.end ≡ true → read_xref (xref_texts x) ≡ Ok x
+    → is_day x.start ≡ true → is_day_or_none x.end ≡ true → ends_by x.start x.end ≡ true → read_xref (xref_texts x) ≡ Ok x
 unfolding read_xref field_at
 xref-back x key uprn source reference start end order =
     let f = xref_texts x in
@@ -130,7 +130,7 @@ xref_fields x h =
 
 lpi-back : (key : List ℕ) (uprn : ℕ) (lang : Lang) (status : Status) (usrn : ℕ) (second : Option ObjectValue) (first : ObjectValue) (start : CivilDay) (end : Option CivilDay)
     → is_label 14 key ≡ true → is_uprn uprn ≡ true → is_usrn usrn ≡ true → is_secondary second ≡ true → is_object first ≡ true
-    → is_day start ≡ true → are_days end ≡ true → ends_by start end ≡ true
+    → is_day start ≡ true → is_day_or_none end ≡ true → ends_by start end ≡ true
     → read_lpi (lpi_texts (record { key = key; uprn = uprn; lang = lang; status = status; usrn = usrn; secondary = second; primary = first; start = start; end = end }))
     ≡ Ok (record { key = key; uprn = uprn; lang = lang; status = status; usrn = usrn; secondary = second; primary = first; start = start; end = end })
 unfolding read_lpi field_at
@@ -188,7 +188,7 @@ release_fields x h =
     release-back x (and-left _ _ h1) (and-right _ _ h1) (and-right _ _ h)
 
 adopt-back : (x : BlpuValue) (from hop : ℕ) → is_uprn x.uprn ≡ true → is_some (of_blpu x.status) ≡ true → nat_le x.easting 700_000 ≡ true → nat_le x.northing 1_300_000 ≡ true
-    → is_parent x.parent ≡ true → is_text_or_none 8 x.postcode ≡ true → is_day x.start ≡ true → are_days x.end ≡ true → ends_by x.start x.end ≡ true
+    → is_parent x.parent ≡ true → is_text_or_none 8 x.postcode ≡ true → is_day x.start ≡ true → is_day_or_none x.end ≡ true → ends_by x.start x.end ≡ true
     → is_code from ≡ true → is_hop hop ≡ true
     → read_adopt (adopt_texts (record { blpu = x; from = from; hop = hop })) ≡ Ok (record { blpu = x; from = from; hop = hop })
 unfolding read_adopt field_at

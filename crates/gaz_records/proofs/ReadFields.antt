@@ -13,7 +13,7 @@ use Rattle.gaz_ids.specs.Codes.{status_of}
 use Rattle.gaz_addressable.specs.Texts.{is_text, text_of}
 use Rattle.gaz_addressable.specs.Objects.{is_text_or_none}
 use Rattle.gaz_addressable.specs.declared.text.TextFault.{TextFault}
-use Rattle.gaz_records.specs.Days.{CivilDay, are_days, date_of, day_le, day_of, ends_by, is_day, no_day}
+use Rattle.gaz_records.specs.Days.{CivilDay, is_day_or_none, date_of, day_le, day_of, ends_by, is_day, no_day}
 use Rattle.gaz_records.specs.Fields.{field}
 use Rattle.gaz_records.specs.Forms.{BlpuStatus, Date, Digits, EndDate, LabelTo, Opt, TextTo, is_blank, not_before, of_blpu, says}
 use Rattle.gaz_records.specs.Labels.{is_label}
@@ -119,7 +119,7 @@ day-fits f i h = date-known (field f i) _ refl h
 
 -- an end date that was read is in the calendar, and isn't before the start
 pub record EndFits (start end : Option CivilDay) (said : Option (Option CivilDay)) : Type 0 where
-  pub days : are_days (unwrap_or said None) ≡ true
+  pub days : is_day_or_none (unwrap_or said None) ≡ true
   pub order : ends_by (unwrap_or start no_day) (unwrap_or said None) ≡ true
 
 ordered : (b : Bool) (s e : CivilDay) → day_le s e ≡ b → is_day e ≡ true → is_some (option_map Some (if b then Some e else None)) ≡ true

@@ -60,16 +60,16 @@ answered forms f is said answer fits h =
     subst (λ x. is x ≡ true) k.same (fits (are-said forms f 0 k.none))
 
 street-said : (f : List (List ℕ)) → AreSaid street_table f 0 → is_street (street_said f) ≡ true
-street-said f (usrn, (sort, (start, (end, done)))) =
+street-said f (usrn, (street_type, (start, (end, done)))) =
     let ends = end-fits f 3 end in
-    and-both _ _ (and-both _ _ (and-both _ _ (and-both _ _ (number-fits f 0 8 1 99_999_999 usrn) (number-fits f 1 1 1 4 sort)) (day-fits f 2 start)) ends.days) ends.order
+    and-both _ _ (and-both _ _ (and-both _ _ (and-both _ _ (number-fits f 0 8 1 99_999_999 usrn) (number-fits f 1 1 1 4 street_type)) (day-fits f 2 start)) ends.days) ends.order
 
 descriptor-said : (f : List (List ℕ)) → AreSaid descriptor_table f 0 → is_descriptor (descriptor_said f) ≡ true
 descriptor-said f (usrn, (lang, (description, (locality, (town, (area, done)))))) =
     and-both _ _ (and-both _ _ (and-both _ _ (and-both _ _ (number-fits f 0 8 1 99_999_999 usrn) (text-fits f 2 100 description)) (opt_text-fits f 3 35 locality)) (opt_text-fits f 4 30 town))
     (text-fits f 5 30 area)
 
-blpu-said : (f : List (List ℕ)) → AreSaid blpu_table f 0 → is_blpu (blpu_said f) ≡ true
+blpu-said : (f : List (List ℕ)) → AreSaid blpu_table f 0 → is_blpu (blpu_said f 1) ≡ true
 blpu-said f (uprn, (status, (easting, (northing, (parent, (postcode, (start, (end, done)))))))) =
     let ends = end-fits f 7 end in
     and-both _ _ (and-both _ _ (and-both _ _ (and-both _ _ (and-both _ _ (and-both _ _ (and-both _ _ (and-both _ _
@@ -142,7 +142,7 @@ reads_items kind.Street f x h = made kind.Street item.Street is_street (λ x. re
 reads_items kind.Descriptor f x h =
     made kind.Descriptor item.Descriptor is_descriptor (λ x. refl) (λ x. refl) (read_descriptor f)
     (λ v e. answered descriptor_table f is_descriptor (descriptor_said f) v (descriptor-said f) e) x h
-reads_items kind.Blpu f x h = made kind.Blpu item.Blpu is_blpu (λ x. refl) (λ x. refl) (read_blpu f) (λ v e. answered blpu_table f is_blpu (blpu_said f) v (blpu-said f) e) x h
+reads_items kind.Blpu f x h = made kind.Blpu item.Blpu is_blpu (λ x. refl) (λ x. refl) (read_blpu f) (λ v e. answered blpu_table f is_blpu (blpu_said f 1) v (blpu-said f) e) x h
 reads_items kind.Xref f x h = made kind.Xref item.Xref is_xref (λ x. refl) (λ x. refl) (read_xref f) (λ v e. answered xref_table f is_xref (xref_said f) v (xref-said f) e) x h
 reads_items kind.Lpi f x h = made kind.Lpi item.Lpi is_lpi (λ x. refl) (λ x. refl) (read_lpi f) (λ v e. answered lpi_table f is_lpi (lpi_said f) v (lpi-said f) e) x h
 reads_items kind.Release f x h =

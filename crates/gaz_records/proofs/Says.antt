@@ -15,7 +15,7 @@ use Rattle.gaz_addressable.specs.Texts.{char_count, is_plain, is_text, text_of}
 use Rattle.gaz_addressable.specs.Objects.{ObjectValue, digits_text, from_of, is_object, is_text_or_none, letter_text, object_of, object_of_fields, texts_of, to_of}
 use Rattle.gaz_addressable.proofs.Characters.{plain_some}
 use Rattle.gaz_addressable.proofs.Rounds.{object_back}
-use Rattle.gaz_records.specs.Days.{CivilDay, are_days, date_text, end_text, ends_by, is_day}
+use Rattle.gaz_records.specs.Days.{CivilDay, is_day_or_none, date_text, end_text, ends_by, is_day}
 use Rattle.gaz_records.specs.Fields.{field}
 use Rattle.gaz_records.specs.Forms.{AddressableObject, BlpuStatus, Date, Digits, EndDate, LabelTo, Language, LpiStatus, Opt, TextTo, is_blank, object_at, of_blpu, says}
 use Rattle.gaz_records.specs.Labels.{is_label}
@@ -69,7 +69,7 @@ unfolding says
 says-day f i d at h = rw (at, date-back d h) refl
 
 pub says-end : (f : List (List ℕ)) (i : ℕ) (start : CivilDay) (end : Option CivilDay) → field f (i - 1) ≡ date_text start → field f i ≡ end_text end
-    → is_day start ≡ true → are_days end ≡ true → ends_by start end ≡ true → says (Opt EndDate) f i ≡ Some end
+    → is_day start ≡ true → is_day_or_none end ≡ true → ends_by start end ≡ true → says (Opt EndDate) f i ≡ Some end
 unfolding says
 says-end f i start None before at h k order = rw at refl
 says-end f i start (Some d) before at h k order = rw (at, before, date-back start h, date-back d k, order) refl

@@ -1,30 +1,16 @@
 -- Adoptions: what their fields say, and how they are written.
-use Rattle.std.specs.Prelude.{ℕ, ◌&&◌, List, ◌∷◌, None, Result, Bool, decimal}
+use Rattle.std.specs.Prelude.{ℕ, ◌&&◌, List, ◌∷◌, Result, Bool, decimal}
 use Rattle.std.specs.Option.{unwrap_or}
-use Rattle.gaz_ids.specs.declared.status.Status.TheVariants.{Approved}
-use Rattle.gaz_records.specs.Days.{no_day}
-use Rattle.gaz_records.specs.Forms.{BlpuStatus, Date, Digits, EndDate, Opt, TextTo, in_form, says}
-use Rattle.gaz_records.specs.Table.{adopt_table, code, hop, uprn}
-use Rattle.gaz_records.specs.Blpus.{BlpuValue, is_blpu, texts_behind}
+use Rattle.gaz_records.specs.Forms.{in_form, says}
+use Rattle.gaz_records.specs.Table.{adopt_table, code, hop}
+use Rattle.gaz_records.specs.Blpus.{blpu_said, is_blpu, texts_behind}
 use Rattle.gaz_records.specs.Releases.{is_code, is_hop}
 use Rattle.gaz_records.specs.declared.adopt.Adopt.{Adopt}
 use Rattle.gaz_records.specs.declared.fields.FieldFault.{FieldFault}
 
-abbrev pub adopted_blpu : List (List ℕ) → BlpuValue
-adopted_blpu f = record {
-  uprn = unwrap_or (says uprn f 0) 0;
-  status = unwrap_or (says BlpuStatus f 3) Approved;
-  easting = unwrap_or (says (Digits 6 0 700_000) f 4) 0;
-  northing = unwrap_or (says (Digits 7 0 1_300_000) f 5) 0;
-  parent = unwrap_or (says (Opt uprn) f 6) None;
-  postcode = unwrap_or (says (Opt (TextTo 8)) f 7) None;
-  start = unwrap_or (says Date f 8) no_day;
-  end = unwrap_or (says (Opt EndDate) f 9) None;
-}
-
 abbrev pub adopt_said : List (List ℕ) → Adopt
 adopt_said f = record {
-  blpu = adopted_blpu f;
+  blpu = blpu_said f 3;
   from = unwrap_or (says code f 1) 0;
   hop = unwrap_or (says hop f 2) 0;
 }

@@ -23,22 +23,23 @@ is_day date =
 abbrev pub no_day : CivilDay
 no_day = record { year = 0; month = 0; day = 0 }
 
-abbrev pub are_days : Option CivilDay → Bool
-are_days None = true
-are_days (Some date) = is_day date
+abbrev pub is_day_or_none : Option CivilDay → Bool
+is_day_or_none None = true
+is_day_or_none (Some date) = is_day date
 
--- an end date is kept as a date, with the year 0 where there is none
+-- the end date that three numbers keep; none where the year is 0
 abbrev pub end_at : ℕ → ℕ → ℕ → Option CivilDay
 end_at year month day =
     if year == 0 then None else Some (record { year = year; month = month; day = day })
 
+-- how an end date is kept: as a date, or as no_day where there is none
 abbrev pub kept_end : Option CivilDay → CivilDay
 kept_end None = no_day
 kept_end (Some date) = date
 
 -- three numbers that keep an end date
 pub record KeepsEnd (year month day : ℕ) : Type 0 where
-  pub date : are_days (end_at year month day) ≡ true
+  pub date : is_day_or_none (end_at year month day) ≡ true
   pub back : kept_end (end_at year month day) ≡ record { year = year; month = month; day = day }
 
 abbrev pub day_of : ℕ → ℕ → ℕ → Option CivilDay
@@ -71,10 +72,11 @@ abbrev pub end_text : Option CivilDay → List ℕ
 end_text None = []
 end_text (Some date) = date_text date
 
--- one date isn't after another
+-- a date as one number, which rises as dates do
 abbrev pub stamp : CivilDay → ℕ
 stamp date = (date.year * 100 + date.month) * 100 + date.day
 
+-- one date isn't after another
 abbrev pub day_le : CivilDay → CivilDay → Bool
 day_le a b = nat_le (stamp a) (stamp b)
 

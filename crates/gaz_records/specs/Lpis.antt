@@ -8,7 +8,8 @@ use Rattle.gaz_ids.specs.declared.lang.Lang.TheVariants.{Eng}
 use Rattle.gaz_ids.specs.declared.status.Status.{Status}
 use Rattle.gaz_ids.specs.declared.status.Status.TheVariants.{Approved}
 use Rattle.gaz_addressable.specs.Objects.{ObjectValue, is_object, texts_of}
-use Rattle.gaz_records.specs.Days.{CivilDay, are_days, date_text, end_text, ends_by, is_day, no_day}
+use Rattle.gaz_records.specs.Days.{CivilDay, is_day_or_none, date_text, end_text, ends_by, is_day}
+use Rattle.gaz_records.specs.Days.{no_day}
 use Rattle.gaz_records.specs.Forms.{AddressableObject, Date, EndDate, LabelTo, Language, LpiStatus}
 use Rattle.gaz_records.specs.Forms.{Opt, in_form, says}
 use Rattle.gaz_records.specs.Labels.{is_label}
@@ -68,4 +69,4 @@ is_secondary (Some o) = is_object o
 abbrev pub is_lpi : LpiValue → Bool
 is_lpi x =
     is_label 14 x.key && is_uprn x.uprn && is_usrn x.usrn && is_secondary x.secondary
-    && is_object x.primary && is_day x.start && are_days x.end && ends_by x.start x.end
+    && is_object x.primary && is_day x.start && is_day_or_none x.end && ends_by x.start x.end

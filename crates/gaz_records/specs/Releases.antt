@@ -1,6 +1,7 @@
 -- Releases: what their fields say, and how they are written.
 use Rattle.std.specs.Prelude.{ℕ, ◌&&◌, nat_le, List, [], ◌∷◌, Result, Bool, decimal}
 use Rattle.std.specs.Option.{unwrap_or}
+use Rattle.gaz_ids.specs.Limits.{last_code, last_hop}
 use Rattle.gaz_records.specs.Forms.{in_form, says}
 use Rattle.gaz_records.specs.Table.{code, hop, release_table, uprn}
 use Rattle.gaz_records.specs.Blpus.{is_uprn}
@@ -24,10 +25,10 @@ release_texts x = decimal x.uprn ∷ decimal x.to ∷ decimal x.hop ∷ []
 
 -- the code of a custodian; a hop has the same bounds
 abbrev pub is_code : ℕ → Bool
-is_code n = nat_le 1 n && nat_le n 9999
+is_code n = nat_le 1 n && nat_le n last_code
 
 abbrev pub is_hop : ℕ → Bool
-is_hop n = nat_le 1 n && nat_le n 9999
+is_hop n = nat_le 1 n && nat_le n last_hop
 
 -- what the table allows
 abbrev pub is_release : Release → Bool

@@ -12,7 +12,7 @@ use Rattle.gaz_records.specs.declared.item.Kind.TheVariants as kinds
 use Rattle.gaz_records.specs.declared.key.Key.{Key}
 use Rattle.gaz_records.specs.declared.key.Key.TheVariants as key
 
--- numbers of 7 bytes
+-- how many numbers seven bytes can write
 abbrev pub seven_bytes : ℕ
 seven_bytes = 72057594037927936
 

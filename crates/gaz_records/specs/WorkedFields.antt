@@ -28,9 +28,9 @@ street start end = read_item kind.Street (codes "101" ∷ codes "1" ∷ start �
 -- a record is read whole, and the first field of a wrong form is told by its number, from 1
 pub record WorkedFields : Type 0 where
   pub open_end : street (codes "2001-04-01") []
-      ≡ Ok (item.Street (record { usrn = 101; sort = 1; start = date 2001 4 1; end = None }))
+      ≡ Ok (item.Street (record { usrn = 101; street_type = 1; start = date 2001 4 1; end = None }))
   pub one_day : street (codes "2001-04-01") (codes "2001-04-01") ≡ Ok (item.Street
-      (record { usrn = 101; sort = 1; start = date 2001 4 1; end = Some (date 2001 4 1) }))
+      (record { usrn = 101; street_type = 1; start = date 2001 4 1; end = Some (date 2001 4 1) }))
   pub end_before_start : street (codes "2001-04-01") (codes "2001-03-31") ≡ Err (fault.Form 4)
   pub no_start : street [] (codes "2001-03-31") ≡ Err (fault.Form 3)
   pub no_number : read_item kind.Street (codes "0" ∷ codes "9" ∷ [] ∷ [] ∷ []) ≡ Err (fault.Form 1)

@@ -2,7 +2,8 @@
 use Rattle.std.specs.Prelude.{ℕ, ◌&&◌, List, [], ◌∷◌, Option, None, Result, Bool, decimal}
 use Rattle.std.specs.Option.{unwrap_or}
 use Rattle.gaz_addressable.specs.Texts.{is_text}
-use Rattle.gaz_records.specs.Days.{CivilDay, are_days, date_text, end_text, ends_by, is_day, no_day}
+use Rattle.gaz_records.specs.Days.{CivilDay, is_day_or_none, date_text, end_text, ends_by, is_day}
+use Rattle.gaz_records.specs.Days.{no_day}
 use Rattle.gaz_records.specs.Forms.{Date, EndDate, LabelTo, Opt, TextTo, in_form, says}
 use Rattle.gaz_records.specs.Labels.{is_label}
 use Rattle.gaz_records.specs.Table.{uprn, xref_table}
@@ -41,4 +42,4 @@ xref_texts x =
 abbrev pub is_xref : XrefValue → Bool
 is_xref x =
     is_label 14 x.key && is_uprn x.uprn && is_label 6 x.source && is_text 50 x.reference
-    && is_day x.start && are_days x.end && ends_by x.start x.end
+    && is_day x.start && is_day_or_none x.end && ends_by x.start x.end

@@ -1,12 +1,13 @@
 ghost use Rattle.std.specs.Prelude.{◌≡◌, ◌≤◌, pos, nat_le, true};
 ghost use Rattle.jiff_core.specs.Calendar.{days_in_month};
-ghost use Rattle.gaz_records.specs.Days.{are_days, date_of, date_text, day_of, is_day, day_le};
+ghost use Rattle.gaz_records.specs.Days.{is_day_or_none, date_of, date_text, day_of, is_day};
+ghost use Rattle.gaz_records.specs.Days.{day_le};
 
 use gaz_ids::digits::{are_digits, value_of};
 use jiff::civil::Date;
 use std::marker::Model;
 
-/// A civil date, from the year 1 to 9999, of the calendar that ISO 8601 extends (`jiff`).
+/// A date of the proleptic Gregorian calendar, from the year 1 to 9999 (ISO 8601; `jiff`).
 #[derive(Clone, Copy)]
 pub struct Day {
     year: u16,
@@ -188,7 +189,7 @@ impl EndDay {
 
     /// What each holds, for callers, who see its value alone.
     pub fn known(&self)
-        ensures { are_days self.now ≡ true }
+        ensures { is_day_or_none self.now ≡ true }
     {
         let _ = &self.year;
     }

@@ -21,6 +21,7 @@ mod row;
 mod shared;
 mod sort_key;
 mod street;
+mod street_type;
 mod xref;
 
 pub use adopt::Adopt;
@@ -36,4 +37,5 @@ pub use release::Release;
 pub use shared::{SharedItem, item_in};
 pub use sort_key::SortKey;
 pub use street::Street;
+pub use street_type::StreetType;
 pub use xref::Xref;

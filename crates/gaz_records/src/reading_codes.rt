@@ -94,8 +94,8 @@ impl<'a> Fields<'a> {
     }
 
     #[tactic(auto, unfolding(crate::specs::Forms::says))]
-    /// An end date that may be left out, not before the start date in the field before.
-    pub fn end_day(&self, i: usize, start: &Day) -> Result<Option<Day>, FieldFault>
+    // An end date that may be left out, not before the start date in the field before.
+    fn end_day(&self, i: usize, start: &Day) -> Result<Option<Day>, FieldFault>
         requires place { i ≤ 16 }
         requires start { says Date self.now (i - 1) ≡ Some start.now }
         ensures tells { TellsField result i (says (Opt EndDate) self.now i) }

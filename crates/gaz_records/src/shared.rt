@@ -46,7 +46,7 @@ impl SharedItem {
     }
 }
 
-/// The item that is there.
+/// The item, where there is one.
 pub fn item_in(shared: &Option<SharedItem>) -> Option<&Item>
     ensures { option_map (λ i. i.now) result ≡ shared.now }
 {

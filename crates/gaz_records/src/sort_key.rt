@@ -16,7 +16,7 @@ use std::cmp::Ordering;
 use std::hash::{Hash, Hasher};
 use std::marker::Model;
 
-// The first number has the kind above so many others.
+// The record identifier stands above the seven bytes behind it.
 const SEVEN_BYTES: u64 = 1 << 56;
 
 /// A key as two numbers, which compare as keys do. It takes 16 bytes, and a search goes by it

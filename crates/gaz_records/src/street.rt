@@ -6,35 +6,37 @@ use crate::day::Day;
 use crate::fields::FieldFault;
 use crate::reading::Fields;
 use crate::row::{add_number, next_dates, next_number};
-use gaz_ids::{Number, Usrn};
+use crate::street_type::StreetType;
+use gaz_ids::Usrn;
 use std::alloc::AllocError;
 use std::marker::Model;
 
-/// The type of a street, 1 to 4 (our profile).
-type Sort = Number<20, 1, 1, 4>;
-
-/// A street (BS 7666:2006, Part 1; the types are our profile's).
+/// A street (BS 7666:2006, Part 1).
 ///
-/// `sort` is 1 officially designated name, 2 street description, 3 numbered street or 4 unofficial
-/// name. A street with an end date is closed; `end` isn't before `start`.
+/// One with an end date is closed; `end` isn't before `start`.
 #[derive(Drop)]
 pub struct Street {
     pub usrn: Usrn,
-    pub sort: u8,
+    pub street_type: StreetType,
     pub start: Day,
     pub end: Option<Day>,
 }
 
 impl Model for Street {
-    ghost use Rattle.std.specs.Prelude.{◌≡◌, ◌&&◌, true};
+    ghost use Rattle.std.specs.Prelude.{◌≡◌, true};
     ghost use Rattle.gaz_records.specs.Days.{ends_by};
-    ghost use Rattle.gaz_records.specs.Streets.{StreetValue, is_sort};
+    ghost use Rattle.gaz_records.specs.Streets.{StreetValue, type_number};
 
     ghost Value = { StreetValue };
 
-    ghost view = { λ x. record { usrn = x.usrn; sort = x.sort; start = x.start; end = x.end } };
+    ghost view = { λ x. record {
+      usrn = x.usrn;
+      street_type = type_number x.street_type;
+      start = x.start;
+      end = x.end;
+    } };
 
-    ghost invariant = { λ x. (is_sort x.sort && ends_by x.start x.end) ≡ true };
+    ghost invariant = { λ x. ends_by x.start x.end ≡ true };
 }
 
 impl Street {
@@ -45,11 +47,11 @@ impl Street {
     {
         fields.count_is(4)?;
         let usrn = fields.number(0)?;
-        let sort: Sort = fields.number(1)?;
+        let street_type = StreetType::of(fields.number(1)?);
         let dates = fields.dates(2)?;
         Ok(Street {
             usrn,
-            sort: sort.number() as u8,
+            street_type,
             start: dates.start,
             end: dates.end,
         })
@@ -61,6 +63,7 @@ impl Street {
         ensures { is_street self.now ≡ true }
     {
         let _ = self.usrn.number();
+        let _ = self.street_type.number();
         self.start.known();
         if let Some(end) = &self.end {
             end.known();
@@ -73,7 +76,7 @@ impl Street {
         ensures kept { Grows out.old.items out.new.items }
     {
         add_number(out, self.usrn.number())?;
-        next_number(out, u64::from(self.sort))?;
+        next_number(out, self.street_type.number())?;
         next_dates(out, &self.start, &self.end)?;
         Ok(())
     }

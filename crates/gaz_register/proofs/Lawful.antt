@@ -5,12 +5,13 @@ use Rattle.std.proofs.lemmas.Bool.{cases_Bool, and_from, and_parts, not-false}
 use Rattle.std.proofs.lemmas.Bool.Decides.{nat_tests}
 use Rattle.std.specs.List.{fold, list_all}
 use Rattle.std.specs.Option.{ok_or}
+use Rattle.gaz_ids.specs.Limits.{last_uprn, last_usrn}
 use Rattle.gaz_ids.specs.Numbers.{in_range}
 use Rattle.gaz_register.specs.Drafts.{◌then◌, all_good, DraftValue}
 use Rattle.gaz_register.specs.Lists.{by_key, place}
 use Rattle.gaz_register.specs.Names.{is_name}
 use Rattle.gaz_register.specs.Reading.{block_from, blocks_from, custodian_from, custodians_from, number_from}
-use Rattle.gaz_register.specs.Registers.{CustodianValue, RegisterValue, are_blocks, is_custodian, most_uprn, most_usrn}
+use Rattle.gaz_register.specs.Registers.{CustodianValue, RegisterValue, are_blocks, is_custodian}
 use Rattle.gaz_register.specs.declared.fault.RegFault.{RegFault}
 use Rattle.gaz_register.specs.declared.fault.RegFault.TheVariants.{BadBlock, BadCode, BadName}
 
@@ -121,12 +122,12 @@ unfolding custodian_from
 custodian-lawful d c e =
     then-ok (ok_or (number_from 1 9999 d.code) BadCode) _ c e (λ code one rest.
     if-ok (not (is_name d.name)) BadName _ c rest (λ name more.
-    then-ok (blocks_from most_uprn d.uprn) _ c more (λ uprn these others.
-    then-ok (blocks_from most_usrn d.usrn) _ c others (λ usrn those made.
+    then-ok (blocks_from last_uprn d.uprn) _ c more (λ uprn these others.
+    then-ok (blocks_from last_usrn d.usrn) _ c others (λ usrn those made.
     let same : record { code = code; name = d.name; own = record { uprn = uprn; usrn = usrn } } ≡ c = cc made in
     rw (← same) (and_from _ _ (and_from _ _ (and_from _ _
     (number-within 1 9999 code d.code (some-ok _ BadCode code one)) (not-false (is_name d.name) name))
-    (blocks-lawful most_uprn d.uprn uprn these)) (blocks-lawful most_usrn d.usrn usrn those))))))
+    (blocks-lawful last_uprn d.uprn uprn these)) (blocks-lawful last_usrn d.usrn usrn those))))))
 
 -- the custodians that a reading gives, as many as there are drafts
 pub record AreLawful (drafts : List DraftValue) (register : RegisterValue) : Type 0 where

@@ -5,8 +5,9 @@ use Rattle.std.proofs.lemmas.Bool.Decides.{nat_tests}
 use Rattle.std.proofs.lemmas.List.Sorted.{All-permutation, IsNonDecreasingBy-from_all_adjacent, IsPermutation-refl}
 use Rattle.std.specs.List.{All, AllAdjacentBelow, find, list_all}
 use Rattle.std.specs.List.Sorted.{IsNonDecreasingBy, IsPermutation}
+use Rattle.gaz_ids.specs.Limits.{last_uprn, last_usrn}
 use Rattle.gaz_register.specs.Lists.{each_two}
-use Rattle.gaz_register.specs.Registers.{Blocks, CustodianValue, RegisterValue, IsRegister, has_own_codes, is_custodian, is_disjoint, most_uprn, most_usrn, owner_in}
+use Rattle.gaz_register.specs.Registers.{Blocks, CustodianValue, RegisterValue, IsRegister, has_own_codes, is_custodian, is_disjoint, owner_in}
 use Rattle.gaz_register.specs.Indexes.{IsIndex, Rises, blocks_in, holdings_of, is_in}
 use Rattle.gaz_register.specs.Drafts.{OrMemory}
 use Rattle.gaz_register.specs.Reading.{checked}
@@ -42,8 +43,8 @@ pub codes-sorted : (register : RegisterValue) → IsRegister register → IsNonD
 codes-sorted register lawful = IsNonDecreasingBy-from_all_adjacent (λ (c : CustodianValue). c.code) register (λ k d h. let less = lawful.codes_rise k d h in omega arith)
 
 upward-in : (kind : Kind) (register : RegisterValue) → list_all is_custodian register ≡ true → All (λ h. h.first ≤ h.last) (holdings_of (blocks_in kind) register)
-upward-in Uprn register lawful = holdings-upward (λ b. b.uprn) most_uprn uprn-blocks register lawful
-upward-in Usrn register lawful = holdings-upward (λ b. b.usrn) most_usrn usrn-blocks register lawful
+upward-in Uprn register lawful = holdings-upward (λ b. b.uprn) last_uprn uprn-blocks register lawful
+upward-in Usrn register lawful = holdings-upward (λ b. b.usrn) last_usrn usrn-blocks register lawful
 
 upward-sorted : (kind : Kind) (register : RegisterValue) (holdings : List Holding) → list_all is_custodian register ≡ true → IsPermutation (holdings_of (blocks_in kind) register) holdings
     → All (λ h. h.first ≤ h.last) holdings

@@ -9,12 +9,13 @@ use Rattle.std.specs.Char.{is_ascii_digit}
 use Rattle.std.specs.List.{list_all}
 use Rattle.std.specs.Str.{all_ascii_digits}
 use Rattle.csv.specs.Reading.{default_config, records}
+use Rattle.gaz_ids.specs.Limits.{last_uprn, last_usrn}
 use Rattle.gaz_ids.specs.Numbers.{in_range}
 use Rattle.gaz_ids.proofs.Numerals.{own}
 use Rattle.gaz_rows.specs.Rows.{AllFilled}
 use Rattle.gaz_rows.proofs.Back.{rows-read-back}
 use Rattle.gaz_register.specs.Laws.{TextsTell}
-use Rattle.gaz_register.specs.Registers.{CustodianValue, RegisterValue, are_blocks, is_custodian, most_uprn, most_usrn}
+use Rattle.gaz_register.specs.Registers.{CustodianValue, RegisterValue, are_blocks, is_custodian}
 use Rattle.gaz_register.specs.Texts.{block_text, blocks_text, row_of}
 use Rattle.gaz_register.proofs.Upward.{uprn-blocks, usrn-blocks}
 
@@ -135,8 +136,8 @@ custodian-told c d lc ld e =
     let uprn-text : blocks_text c.own.uprn ≡ blocks_text d.own.uprn = cc e in
     let usrn-text : blocks_text c.own.usrn ≡ blocks_text d.own.usrn = cc e in
     let code = decimal_injective c.code d.code (small-code c.code (code-lawful c lc)) (small-code d.code (code-lawful d ld)) code-text in
-    let uprn = blocks-told c.own.uprn d.own.uprn (small-blocks most_uprn _ (lit< tt) (uprn-blocks c lc)) (small-blocks most_uprn _ (lit< tt) (uprn-blocks d ld)) uprn-text in
-    let usrn = blocks-told c.own.usrn d.own.usrn (small-blocks most_usrn _ (lit< tt) (usrn-blocks c lc)) (small-blocks most_usrn _ (lit< tt) (usrn-blocks d ld)) usrn-text in
+    let uprn = blocks-told c.own.uprn d.own.uprn (small-blocks last_uprn _ (lit< tt) (uprn-blocks c lc)) (small-blocks last_uprn _ (lit< tt) (uprn-blocks d ld)) uprn-text in
+    let usrn = blocks-told c.own.usrn d.own.usrn (small-blocks last_usrn _ (lit< tt) (usrn-blocks c lc)) (small-blocks last_usrn _ (lit< tt) (usrn-blocks d ld)) usrn-text in
     let whole : record { code = c.code; name = c.name; own = record { uprn = c.own.uprn; usrn = c.own.usrn } } ≡ record { code = d.code; name = d.name; own = record { uprn = d.own.uprn; usrn = d.own.usrn } } = cc in
     whole
 

@@ -5,14 +5,15 @@ use Rattle.std.proofs.lemmas.Bool.{and_parts}
 use Rattle.std.proofs.lemmas.Bool.Decides.{nat_tests}
 use Rattle.std.proofs.lemmas.List.Elements.{All-nil, All-cons, All-append}
 use Rattle.std.specs.List.{All, list_all}
-use Rattle.gaz_register.specs.Registers.{Blocks, CustodianValue, RegisterValue, are_blocks, is_custodian, most_uprn, most_usrn}
+use Rattle.gaz_ids.specs.Limits.{last_uprn, last_usrn}
+use Rattle.gaz_register.specs.Registers.{Blocks, CustodianValue, RegisterValue, are_blocks, is_custodian}
 use Rattle.gaz_register.specs.Indexes.{holding, holdings_of}
 use Rattle.gaz_register.specs.declared.index.Holding.{Holding}
 
-pub uprn-blocks : (c : CustodianValue) → is_custodian c ≡ true → are_blocks most_uprn c.own.uprn ≡ true
+pub uprn-blocks : (c : CustodianValue) → is_custodian c ≡ true → are_blocks last_uprn c.own.uprn ≡ true
 uprn-blocks c e = (and_parts _ _ ((and_parts _ _ e).0)).1
 
-pub usrn-blocks : (c : CustodianValue) → is_custodian c ≡ true → are_blocks most_usrn c.own.usrn ≡ true
+pub usrn-blocks : (c : CustodianValue) → is_custodian c ≡ true → are_blocks last_usrn c.own.usrn ≡ true
 usrn-blocks c e = (and_parts _ _ e).1
 
 upward-one : (a b most : ℕ) → (nat_le 1 a && nat_le a b && nat_le b most) ≡ true → a ≤ b

@@ -4,11 +4,12 @@ use Rattle.std.specs.Prelude.{IsUtf8, ◌&&◌, decimal, map}
 use Rattle.std.proofs.lemmas.Bool.{and_parts}
 use Rattle.std.proofs.lemmas.Str.{IsUtf8-append, IsUtf8-nil}
 use Rattle.std.specs.List.{list_all}
+use Rattle.gaz_ids.specs.Limits.{last_uprn, last_usrn}
 use Rattle.gaz_addressable.proofs.Characters.{plain_utf8}
 use Rattle.gaz_rows.specs.Rows.{AreTextRows, AreTexts}
 use Rattle.gaz_rows.proofs.Utf8.{decimal-utf8, lines-utf8, one-byte}
 use Rattle.gaz_register.specs.Names.{is_name}
-use Rattle.gaz_register.specs.Registers.{CustodianValue, RegisterValue, is_custodian, most_uprn, most_usrn}
+use Rattle.gaz_register.specs.Registers.{CustodianValue, RegisterValue, is_custodian}
 use Rattle.gaz_register.specs.Texts.{block_text, blocks_text, register_text, row_of}
 use Rattle.gaz_register.proofs.Telling.{AllSmall, Small, code-lawful, small-blocks, small-code}
 use Rattle.gaz_register.proofs.Upward.{uprn-blocks, usrn-blocks}
@@ -42,9 +43,9 @@ custodian-utf8 c e = (
   (
     name-text c.name (name-lawful c e),
     (
-      blocks-utf8 c.own.uprn (small-blocks most_uprn c.own.uprn (lit< tt) (uprn-blocks c e)),
+      blocks-utf8 c.own.uprn (small-blocks last_uprn c.own.uprn (lit< tt) (uprn-blocks c e)),
       (
-        blocks-utf8 c.own.usrn (small-blocks most_usrn c.own.usrn (lit< tt) (usrn-blocks c e)),
+        blocks-utf8 c.own.usrn (small-blocks last_usrn c.own.usrn (lit< tt) (usrn-blocks c e)),
         tt,
       ),
     ),

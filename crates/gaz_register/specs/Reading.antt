@@ -5,12 +5,13 @@ use Rattle.std.specs.Option.{ok_or}
 use Rattle.std.specs.Str.{is_utf8}
 use Rattle.toml.specs.Data.{Members}
 use Rattle.toml.specs.Parse.{parse_document}
+use Rattle.gaz_ids.specs.Limits.{last_code, last_uprn, last_usrn}
 use Rattle.gaz_ids.specs.Numbers.{of_id}
 use Rattle.gaz_register.specs.Drafts.{◌then◌, all_good, DraftValue, drafts_in}
 use Rattle.gaz_register.specs.Lists.{by_key}
 use Rattle.gaz_register.specs.Names.{is_name}
 use Rattle.gaz_register.specs.Registers.{CustodianValue, RegisterValue, has_own_codes, is_disjoint}
-use Rattle.gaz_register.specs.Registers.{most_uprn, most_usrn}
+use Rattle.gaz_register.specs.Registers.{most_blocks, most_custodians}
 use Rattle.gaz_register.specs.declared.fault.RegFault.{RegFault}
 use Rattle.gaz_register.specs.declared.fault.RegFault.TheVariants.{NotToml, TooMany, BadCode}
 use Rattle.gaz_register.specs.declared.fault.RegFault.TheVariants.{BadName, BadBlock, SameCode}
@@ -31,16 +32,16 @@ block_from most pair =
 -- at most 8 blocks, by rising first number
 unfoldable pub blocks_from : ℕ → List (ℤ × ℤ) → Result (List (ℕ × ℕ)) RegFault
 blocks_from most pairs =
-    if nat_lt 8 (length pairs) then Err BadBlock else
+    if nat_lt most_blocks (length pairs) then Err BadBlock else
     all_good (map (block_from most) pairs) then (λ blocks. Ok (by_key (λ b. b.0) blocks))
 
 -- the custodian that a draft describes, or the first of its faults
 unfoldable pub custodian_from : DraftValue → Result CustodianValue RegFault
 custodian_from d =
-    ok_or (number_from 1 9999 d.code) BadCode then (λ code.
+    ok_or (number_from 1 last_code d.code) BadCode then (λ code.
     if not (is_name d.name) then Err BadName else
-    blocks_from most_uprn d.uprn then (λ uprn.
-    blocks_from most_usrn d.usrn then (λ usrn.
+    blocks_from last_uprn d.uprn then (λ uprn.
+    blocks_from last_usrn d.usrn then (λ usrn.
     Ok (record { code = code; name = d.name; own = record { uprn = uprn; usrn = usrn } }))))
 
 -- the custodians by rising code, or the first fault in the order of the text
@@ -68,5 +69,5 @@ unfoldable pub register_of : List ℕ → Result RegisterValue RegFault
 register_of text =
     ok_or (document text) NotToml then (λ table.
     drafts_in table then (λ drafts.
-    if nat_lt 400 (length drafts) then Err TooMany else
+    if nat_lt most_custodians (length drafts) then Err TooMany else
     custodians_from drafts then checked))

@@ -4,6 +4,7 @@ use Rattle.std.specs.Prelude.{List, [], length, Option, Some, None, option_map, 
 use Rattle.std.specs.Prelude.{if◌then◌else◌}
 use Rattle.std.specs.List.{AllAdjacentBelow, find, flat_map, list_all, list_any}
 use Rattle.std.specs.Option.{option_map_or}
+use Rattle.gaz_ids.specs.Limits.{last_code, last_uprn, last_usrn}
 use Rattle.gaz_ids.specs.Numbers.{in_range}
 use Rattle.gaz_register.specs.Lists.{each_two}
 use Rattle.gaz_register.specs.Names.{is_name}
@@ -69,12 +70,12 @@ owner_of_usrn = owner_in (λ b. b.usrn)
 
 -- ---- what every register keeps
 
--- the highest numbers: 12 digits of a UPRN, 8 digits of a USRN
-abbrev pub most_uprn : ℕ
-most_uprn = 999_999_999_999
+-- the most custodians, and the most blocks of one kind that one of them has
+abbrev pub most_custodians : ℕ
+most_custodians = 400
 
-abbrev pub most_usrn : ℕ
-most_usrn = 99_999_999
+abbrev pub most_blocks : ℕ
+most_blocks = 8
 
 -- the two blocks have no number in common
 abbrev pub is_apart : (ℕ × ℕ) → (ℕ × ℕ) → Bool
@@ -96,18 +97,18 @@ has_own_codes register = each_two (λ a b. not (a.code == b.code)) register
 -- number
 abbrev pub are_blocks : ℕ → List (ℕ × ℕ) → Bool
 are_blocks most blocks =
-    nat_le (length blocks) 8
+    nat_le (length blocks) most_blocks
     && list_all (λ b. nat_le 1 b.0 && nat_le b.0 b.1 && nat_le b.1 most) blocks
 
 -- a code, a name and blocks that a custodian may have
 abbrev pub is_custodian : CustodianValue → Bool
 is_custodian c =
-    in_range 1 9999 c.code && is_name c.name
-    && are_blocks most_uprn c.own.uprn && are_blocks most_usrn c.own.usrn
+    in_range 1 last_code c.code && is_name c.name
+    && are_blocks last_uprn c.own.uprn && are_blocks last_usrn c.own.usrn
 
 -- at most 400 custodians, by rising code, and no number is in two blocks
 pub record IsRegister (register : RegisterValue) : Type 0 where
-  pub few : length register ≤ 400
+  pub few : length register ≤ most_custodians
   pub codes_rise : AllAdjacentBelow (λ a b. a.code < b.code) register (length register)
   pub lawful : list_all is_custodian register ≡ true
   pub uprn_disjoint : is_disjoint (λ b. b.uprn) register ≡ true

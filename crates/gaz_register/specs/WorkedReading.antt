@@ -1,11 +1,12 @@
 -- Worked examples of the reading of a register, computed from the definitions.
 use Rattle.std.specs.Prelude.{◌≡◌, ℕ, ℤ, pos, negsuc, List, [], ◌∷◌, ◌++◌, map, codes, Ok, Err}
 use Rattle.toml.specs.Data.{array, integer, item, member, no_items, no_members}
+use Rattle.gaz_ids.specs.Limits.{last_uprn, last_usrn}
 use Rattle.gaz_register.specs.Drafts.{DraftValue, draft_in, drafts_in, pair_of}
 use Rattle.gaz_register.specs.GrowthExamples.{county, custodian, two}
 use Rattle.gaz_register.specs.Reading.{block_from, blocks_from, checked, custodian_from}
 use Rattle.gaz_register.specs.Reading.{custodians_from}
-use Rattle.gaz_register.specs.Registers.{CustodianValue, most_uprn, most_usrn}
+use Rattle.gaz_register.specs.Registers.{CustodianValue}
 use Rattle.gaz_register.specs.Texts.{register_text}
 use Rattle.gaz_register.specs.declared.fault.RegFault.TheVariants.{BadBlock, BadCode, BadName}
 use Rattle.gaz_register.specs.declared.fault.RegFault.TheVariants.{Overlap, SameCode, Shape}
@@ -23,19 +24,19 @@ abbrev pub of_block : ℕ → ℕ × ℕ → CustodianValue
 of_block code block = custodian code (codes "A") (block ∷ []) []
 
 pub record WorkedBlocks : Type 0 where
-  pub greatest : block_from most_usrn (pos 1, pos 99_999_999) ≡ Ok (1, 99_999_999)
-  pub greatest_uprn : block_from most_uprn (pos 1, pos 999_999_999_999) ≡ Ok (1, 999_999_999_999)
-  pub of_one_number : block_from most_usrn (pos 5, pos 5) ≡ Ok (5, 5)
-  pub from_none : block_from most_usrn (pos 0, pos 1) ≡ Err BadBlock
-  pub below_none : block_from most_usrn (negsuc 0, pos 1) ≡ Err BadBlock
-  pub backwards : block_from most_usrn (pos 5, pos 4) ≡ Err BadBlock
-  pub beyond : block_from most_usrn (pos 1, pos 100_000_000) ≡ Err BadBlock
+  pub greatest : block_from last_usrn (pos 1, pos 99_999_999) ≡ Ok (1, 99_999_999)
+  pub greatest_uprn : block_from last_uprn (pos 1, pos 999_999_999_999) ≡ Ok (1, 999_999_999_999)
+  pub of_one_number : block_from last_usrn (pos 5, pos 5) ≡ Ok (5, 5)
+  pub from_none : block_from last_usrn (pos 0, pos 1) ≡ Err BadBlock
+  pub below_none : block_from last_usrn (negsuc 0, pos 1) ≡ Err BadBlock
+  pub backwards : block_from last_usrn (pos 5, pos 4) ≡ Err BadBlock
+  pub beyond : block_from last_usrn (pos 1, pos 100_000_000) ≡ Err BadBlock
   -- by rising first number, eight at most
-  pub sorted : blocks_from most_usrn ((pos 6, pos 10) ∷ (pos 1, pos 5) ∷ [])
+  pub sorted : blocks_from last_usrn ((pos 6, pos 10) ∷ (pos 1, pos 5) ∷ [])
       ≡ Ok ((1, 5) ∷ (6, 10) ∷ [])
-  pub eight : blocks_from most_usrn (singles (1 ∷ 2 ∷ 3 ∷ 4 ∷ 5 ∷ 6 ∷ 7 ∷ 8 ∷ []))
+  pub eight : blocks_from last_usrn (singles (1 ∷ 2 ∷ 3 ∷ 4 ∷ 5 ∷ 6 ∷ 7 ∷ 8 ∷ []))
       ≡ Ok (map (λ n. (n, n)) (1 ∷ 2 ∷ 3 ∷ 4 ∷ 5 ∷ 6 ∷ 7 ∷ 8 ∷ []))
-  pub nine : blocks_from most_usrn (singles (1 ∷ 2 ∷ 3 ∷ 4 ∷ 5 ∷ 6 ∷ 7 ∷ 8 ∷ 9 ∷ []))
+  pub nine : blocks_from last_usrn (singles (1 ∷ 2 ∷ 3 ∷ 4 ∷ 5 ∷ 6 ∷ 7 ∷ 8 ∷ 9 ∷ []))
       ≡ Err BadBlock
 
 pub record WorkedReading : Type 0 where

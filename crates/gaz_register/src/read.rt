@@ -13,7 +13,7 @@ use crate::draft::{CustodianDraft, Pair, drafts_in};
 use crate::fault::RegFault;
 use crate::name::is_name;
 use crate::register::Register;
-use gaz_ids::Code;
+use gaz_ids::{Code, LAST_CODE, LAST_UPRN, LAST_USRN};
 use std::alloc::Global;
 use std::str;
 use toml::Table;
@@ -23,12 +23,6 @@ const MOST_CUSTODIANS: usize = 400;
 
 // The most blocks of one kind that a custodian has (our profile).
 const MOST_BLOCKS: usize = 8;
-
-// The highest UPRN: 12 digits (BS 7666:2006, Part 2).
-const MOST_UPRN: u64 = 999_999_999_999;
-
-// The highest USRN: 8 digits (BS 7666:2006, Part 1).
-const MOST_USRN: u64 = 99_999_999;
 
 // The table that a TOML text writes.
 fn document(alloc: Global, text: &[u8]) -> Result<Table, RegFault>
@@ -94,14 +88,14 @@ fn blocks_from(alloc: Global, most: u64, pairs: &[Pair]) -> Result<Vec<Block>, R
 fn custodian_from(alloc: Global, draft: &CustodianDraft) -> Result<Custodian, RegFault>
     ensures { OrMemory result (custodian_from draft.now) }
 {
-    let Some(code) = number_from(9999, draft.code).and_then(Code::of) else {
+    let Some(code) = number_from(LAST_CODE, draft.code).and_then(Code::of) else {
         return Err(RegFault::BadCode);
     };
     if !is_name(draft.name) {
         return Err(RegFault::BadName);
     }
-    let uprn = blocks_from(alloc, MOST_UPRN, &draft.uprn)?;
-    let usrn = blocks_from(alloc, MOST_USRN, &draft.usrn)?;
+    let uprn = blocks_from(alloc, LAST_UPRN, &draft.uprn)?;
+    let usrn = blocks_from(alloc, LAST_USRN, &draft.usrn)?;
     let name = String::from_str(alloc, draft.name)?;
     Ok(Custodian::new(code, name, uprn, usrn))
 }

@@ -5,8 +5,8 @@ ghost use Rattle.std.specs.List.Sorted.{IsNonDecreasingBy};
 ghost use Rattle.gaz_register.specs.Drafts.{OrMemory};
 ghost use Rattle.gaz_register.specs.Reading.{checked};
 ghost use Rattle.gaz_register.specs.Registers.{IsRegister, blocks_of, code_of, custodian_of};
-ghost use Rattle.gaz_register.specs.Registers.{is_custodian, knows, name_of, owner_of_uprn};
-ghost use Rattle.gaz_register.specs.Registers.{owner_of_usrn, within};
+ghost use Rattle.gaz_register.specs.Registers.{is_custodian, knows, most_custodians, name_of};
+ghost use Rattle.gaz_register.specs.Registers.{owner_of_uprn, owner_of_usrn, within};
 
 use crate::custodian::{Custodian, find_custodian, have_own_codes};
 use crate::fault::RegFault;
@@ -40,7 +40,7 @@ impl Register {
     #[tactic(auto, unfolding(crate::specs::Reading::checked))]
     /// The register of custodians that stand by rising code.
     pub(crate) fn of(alloc: Global, custodians: Vec<Custodian>) -> Result<Register, RegFault>
-        requires few { length custodians.items ≤ 400 }
+        requires few { length custodians.items ≤ most_custodians }
         requires sorted { IsNonDecreasingBy (λ c. c.code) custodians.items }
         requires lawful { list_all is_custodian custodians.items ≡ true }
         ensures { OrMemory result (checked custodians.items) }

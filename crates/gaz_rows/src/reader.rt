@@ -37,7 +37,8 @@ impl<'a> Model for Rows<'a> {
     ghost invariant = { λ r. Stands r.progress r.rdr };
 }
 
-/// All records of the bytes, of any lengths, before the first is read.
+/// All records of the bytes behind a byte order mark, if there is one, of any lengths, before the
+/// first is read.
 pub fn open_rows<'a>(alloc: Global, bytes: &'a [u8]) -> Rows<'a>
     ensures { result ≡ Some (rows_of bytes.now) }
 {

@@ -10,9 +10,9 @@ use Rattle.gaz_records.specs.declared.item.Item.TheVariants as item
 use Rattle.gaz_records.specs.declared.key.Key.{Key}
 use Rattle.gaz_records.specs.declared.key.Key.TheVariants as key
 use Rattle.gaz_views.specs.View.{View, holds}
-use Rattle.gaz_views.specs.Words.{approved_of, is_approved}
+use Rattle.gaz_views.specs.Words.{approved_of, blpu_named, is_approved}
 use Rattle.gaz_rules.specs.Breaches.{blpu_state, key_faults, name_faults, no_key_fault}
-use Rattle.gaz_rules.specs.EndRules.{approved_at, as_approved, blpu_at, blpu_named, found_in, if_some, is_closed, is_historical, is_past, leaves_parts, leaves_ties, same_key}
+use Rattle.gaz_rules.specs.EndRules.{approved_at, as_approved, blpu_at, found_in, if_some, is_closed, is_historical, is_past, leaves_parts, leaves_ties, same_key}
 use Rattle.gaz_rules.specs.Streets.{street_faults}
 use Rattle.gaz_rules.specs.declared.name_faults.BlpuState.{BlpuState}
 use Rattle.gaz_rules.specs.declared.streets.StreetFaults.{StreetFaults}

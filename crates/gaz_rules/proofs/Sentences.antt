@@ -14,8 +14,8 @@ use Rattle.gaz_records.specs.declared.item.Item.TheVariants as item
 use Rattle.gaz_records.specs.declared.key.Key.{Key}
 use Rattle.gaz_records.specs.declared.key.Key.TheVariants as key
 use Rattle.gaz_views.specs.View.{View, holds}
-use Rattle.gaz_views.specs.Words.{is_approved}
-use Rattle.gaz_rules.specs.EndRules.{approved_at, as_approved, as_blpu, as_street, blpu_at, blpu_named, found_in, if_some, is_closed, is_historical, is_past, is_second, lacks_blpu, lacks_descriptor, lacks_street, names_closed, names_past, same_key, street_at}
+use Rattle.gaz_views.specs.Words.{blpu_named, is_approved}
+use Rattle.gaz_rules.specs.EndRules.{approved_at, as_approved, as_blpu, as_street, blpu_at, found_in, if_some, is_closed, is_historical, is_past, is_second, lacks_blpu, lacks_descriptor, lacks_street, names_closed, names_past, same_key, street_at}
 use Rattle.gaz_rules.specs.Sentences.{HasSecond, HaveNone, IsApprovedLpi, IsClosedStreet, IsFirstWith, IsPastBlpu, LacksBlpu, NamesClosed, NamesNowhere, NamesPast, NamesUnnamed, views_in_turn}
 use Rattle.gaz_rules.proofs.Approved.{an_lpi, of_from, of_gives}
 use Rattle.gaz_rules.proofs.Keys.{key_itself, key_tied}

@@ -14,9 +14,9 @@ use Rattle.gaz_records.specs.declared.key.Key.TheVariants as key
 use Rattle.gaz_register.proofs.Ownership.{one-owner}
 use Rattle.gaz_register.specs.Registers.{Blocks, IsRegister, Owners, RegisterValue, blocks_of, within}
 use Rattle.gaz_views.specs.View.{View, empty_view, holds}
-use Rattle.gaz_views.specs.Words.{approved_of, approved_on, has_children, tied}
+use Rattle.gaz_views.specs.Words.{approved_of, approved_on, blpu_named, has_children, tied}
 use Rattle.gaz_keeper.specs.Board.{Board, Judgement, adds, empty_board, last_view, reached, view_after}
-use Rattle.gaz_rules.specs.EndRules.{ancestor, approved_at, as_approved, as_blpu, blpu_named, closed_under_lpi, lacks_blpu, lacks_own_street, lacks_parent, leaves_lpi, leaves_parts, leaves_ties, parent_of, past_under_lpi}
+use Rattle.gaz_rules.specs.EndRules.{ancestor, approved_at, as_approved, as_blpu, closed_under_lpi, lacks_blpu, lacks_own_street, lacks_parent, leaves_lpi, leaves_parts, leaves_ties, parent_of, past_under_lpi}
 use Rattle.gaz_rules.specs.Judging.{bases_of, judge}
 use Rattle.gaz_rules.specs.Bases.{basis_views, judged_on}
 use Rattle.gaz_rules.specs.Sound.{AreDisjoint, AreSoundBases, IsSound, IsSoundBasis, IsSoundBoard, NamesOthers}

@@ -10,8 +10,8 @@ use Rattle.gaz_records.specs.declared.item.Item.TheVariants as item
 use Rattle.gaz_records.specs.declared.key.Key.{Key}
 use Rattle.gaz_records.specs.declared.key.Key.TheVariants as key
 use Rattle.gaz_views.specs.View.{View}
-use Rattle.gaz_views.specs.Words.{has_children, is_child_of, names, tied}
-use Rattle.gaz_rules.specs.EndRules.{as_blpu, blpu_at, blpu_named, parent_of}
+use Rattle.gaz_views.specs.Words.{blpu_named, has_children, is_child_of, names, tied}
+use Rattle.gaz_rules.specs.EndRules.{as_blpu, blpu_at, parent_of}
 use Rattle.gaz_rules.proofs.Keys.{any_from, any_gives}
 use Rattle.gaz_rules.proofs.Booleans.{and_then_gives}
 

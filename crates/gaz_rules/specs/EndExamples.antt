@@ -41,7 +41,7 @@ x1 = key.Xref (codes "X1")
 
 abbrev pub closed_street : ℕ → Item
 closed_street usrn =
-    item.Street (record { usrn = usrn; sort = 1; start = spring; end = Some spring })
+    item.Street (record { usrn = usrn; street_type = 1; start = spring; end = Some spring })
 
 abbrev pub past : ℕ → Item
 past uprn = item.Blpu (record {

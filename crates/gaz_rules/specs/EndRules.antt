@@ -15,7 +15,8 @@ use Rattle.gaz_records.specs.declared.key.Key.{Key}
 use Rattle.gaz_records.specs.declared.key.Key.TheVariants as key
 use Rattle.gaz_views.specs.View.{View, holds}
 pub use Rattle.gaz_views.specs.Numbered.{as_blpu, as_street, blpu_at, is_closed, street_at}
-use Rattle.gaz_views.specs.Words.{approved_of, approved_on, has_children, is_approved, tied}
+use Rattle.gaz_views.specs.Words.{approved_of, approved_on, blpu_named, has_children, is_approved}
+use Rattle.gaz_views.specs.Words.{tied}
 
 -- ---- what stands in a view
 
@@ -29,12 +30,6 @@ same_key = eq_by_cmp key_cmp
 abbrev pub as_approved : Item → Option LpiValue
 as_approved (item.Lpi l) = if is_approved l.status then Some l else None
 as_approved _ = None
-
--- the BLPU that an LPI or a cross reference names
-abbrev pub blpu_named : Item → Option ℕ
-blpu_named (item.Lpi l) = Some l.uprn
-blpu_named (item.Xref x) = Some x.uprn
-blpu_named _ = None
 
 -- the approved LPI under a key
 abbrev pub approved_at : View → Key → Option LpiValue

@@ -3,7 +3,7 @@ use Rattle.std.specs.Prelude.{ℕ, List, [], ◌∷◌, ◌++◌, Option}
 use Rattle.std.specs.Option.{option_map}
 use Rattle.std.specs.List.{filter_map, fold}
 use Rattle.gaz_records.specs.Keys.{key_of}
-use Rattle.gaz_changefile.specs.Reading.{Reading, Good, Bad}
+pub use Rattle.gaz_changefile.specs.Reading.{Bad, Fault, Good, Reading}
 use Rattle.gaz_changefile.specs.declared.change.Basis.{Basis}
 use Rattle.gaz_changefile.specs.declared.change.Change.{Change}
 use Rattle.gaz_views.specs.View.{View}
@@ -17,10 +17,6 @@ use Rattle.gaz_rules.specs.Rules.{effect, record_rules, first_broken}
 abbrev pub bases_of : Reading → List Basis
 bases_of (Good file) = file.bases
 bases_of (Bad place rule) = []
-
-pub record Fault : Type 0 where
-  pub place : ℕ
-  pub rule : ℕ
 
 -- each change with the view that stands before it
 abbrev pub with_views : View → List Change → List (View × Change)

@@ -3,7 +3,8 @@ use Rattle.std.specs.Prelude.{◌≡◌, ◌≤◌, ◌↔◌, ℕ, List, Some, 
 use Rattle.gaz_records.specs.declared.key.Key.{Key}
 use Rattle.gaz_records.specs.declared.key.Key.TheVariants as key
 use Rattle.gaz_changefile.specs.Reading.{Reading}
-use Rattle.gaz_register.specs.Registers.{Blocks, IsRegister, Owners, RegisterValue, blocks_of, within}
+use Rattle.gaz_register.specs.Registers.{Blocks, IsRegister, Owners, RegisterValue, blocks_of}
+use Rattle.gaz_register.specs.Registers.{within}
 use Rattle.gaz_views.specs.View.{View, empty_view}
 use Rattle.gaz_keeper.specs.Board.{Board, adds, empty_board}
 use Rattle.gaz_rules.specs.EndRules.{ancestor, is_apart, is_own_ancestor, is_untied}

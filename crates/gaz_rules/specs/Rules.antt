@@ -1,5 +1,6 @@
 -- The record rules of a change file, as tests on the view before a record.
 use Rattle.std.specs.Prelude.{ℕ, ◌==◌, Bool, true, false, not, ◌&&◌, ◌||◌, List, [], ◌∷◌, Option}
+use Rattle.std.specs.Prelude.{None, Some, if◌then◌else◌}
 use Rattle.std.specs.Option.{option_map, option_map_or}
 use Rattle.std.specs.List.{find}
 use Rattle.std.specs.FinMap as map
@@ -7,6 +8,7 @@ use Rattle.gaz_records.specs.Items.{is_entry}
 use Rattle.gaz_records.specs.Keys.{key_of}
 use Rattle.gaz_records.specs.declared.item.Item.{Item}
 use Rattle.gaz_records.specs.declared.item.Item.TheVariants as item
+use Rattle.gaz_records.specs.declared.key.Key.{Key}
 use Rattle.gaz_register.specs.Registers.{Blocks, within}
 use Rattle.gaz_views.specs.View.{View, holds, was_used, with_adoption, with_item, with_release}
 use Rattle.gaz_views.specs.View.{without_key}
@@ -103,6 +105,18 @@ record_rules c own others v a i =
     ∷ (41, is_unreleased c others i)
     ∷ (42, is_stale v i)
     ∷ []
+
+-- the least rule that an entry under this key breaks, its number being the custodian's own: by an
+-- insert, by an update to this item, and by its deletion
+abbrev pub insert_breach : View → Key → Option ℕ
+insert_breach v k = if was_used v k then Some 21 else None
+
+abbrev pub update_breach : View → Key → Item → Option ℕ
+update_breach v k i =
+    option_map_or (λ old. if is_moved old i then Some 24 else None) (map.get v.items k) (Some 22)
+
+abbrev pub delete_breach : View → Key → Item → Option ℕ
+delete_breach v k i = if holds v k then (if stays i then Some 23 else None) else Some 22
 
 -- the least rule that is broken
 abbrev pub first_broken : List (ℕ × Bool) → Option ℕ

@@ -13,7 +13,8 @@ use Rattle.gaz_records.specs.declared.item.Item.TheVariants as item
 use Rattle.gaz_records.specs.declared.key.Key.{Key}
 use Rattle.gaz_records.specs.declared.key.Key.TheVariants as key
 use Rattle.gaz_views.specs.View.{View, holds}
-use Rattle.gaz_rules.specs.EndRules.{blpu_named, closed_under_lpi, found_in, is_second, lacks_blpu}
+use Rattle.gaz_views.specs.Words.{blpu_named}
+use Rattle.gaz_rules.specs.EndRules.{closed_under_lpi, found_in, is_second, lacks_blpu}
 use Rattle.gaz_rules.specs.EndRules.{lacks_descriptor, lacks_own_street, lacks_parent, lacks_street}
 use Rattle.gaz_rules.specs.EndRules.{leaves_lpi, leaves_parts, leaves_ties, names_closed}
 use Rattle.gaz_rules.specs.EndRules.{names_past, past_under_lpi}

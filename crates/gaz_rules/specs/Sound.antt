@@ -1,14 +1,12 @@
 -- The views that a lawful board may have.
 use Rattle.std.specs.Prelude.{◌≡◌, ◌≢◌, ◌≤◌, ℕ, true, false, List, [], Some}
 use Rattle.std.specs.List.{All}
-use Rattle.std.specs.FinMap as map
-use Rattle.gaz_records.specs.Keys.{key_of}
 use Rattle.gaz_records.specs.Lpis.{LpiValue}
-use Rattle.gaz_records.specs.declared.item.Item.{Item}
 use Rattle.gaz_records.specs.declared.key.Key.{Key}
 use Rattle.gaz_records.specs.declared.key.Key.TheVariants as key
 use Rattle.gaz_changefile.specs.Reading.{Reading}
 use Rattle.gaz_register.specs.Registers.{Blocks, Owners, within}
+use Rattle.gaz_views.specs.Lawful.{IsKeyed}
 use Rattle.gaz_views.specs.View.{View, holds, was_used}
 use Rattle.gaz_keeper.specs.Board.{Board, view_after}
 use Rattle.gaz_rules.specs.Judging.{bases_of}
@@ -21,7 +19,7 @@ use Rattle.gaz_rules.specs.EndRules.{lacks_parent, names_closed}
 -- custodian's own
 pub record IsSound (own : Blocks) (v : View) : Type 0 where
   -- each item stands under its own key, and each key that stands there was used
-  pub keyed : (k : Key) (i : Item) → map.get v.items k ≡ Some i → key_of i ≡ k
+  pub keyed : IsKeyed v
   pub used : (k : Key) → holds v k ≡ true → was_used v k ≡ true
   -- 30 and 31
   pub one_approved : (k : Key) → is_second v k ≡ false

@@ -6,7 +6,8 @@ ghost use Rattle.gaz_register.specs.Registers.{blocks_of};
 ghost use Rattle.gaz_views.specs.Custody.{hop_of, is_holding};
 ghost use Rattle.gaz_views.specs.View.{custody_at};
 ghost use Rattle.gaz_keeper.specs.Board.{reached, view_after};
-ghost use Rattle.gaz_rules.specs.CustodyRules.{holds_number, is_released_to, was_released};
+ghost use Rattle.gaz_rules.specs.CustodyRules.{adopt_breach, holds_number, is_released_to};
+ghost use Rattle.gaz_rules.specs.CustodyRules.{release_breach, was_released};
 ghost use Rattle.gaz_rules.specs.Working.{IsJudging, ReadsContent, ReadsView, ReadsViews};
 
 use crate::rule;
@@ -65,10 +66,8 @@ pub(crate) fn release_breach<K: Shelf>(
     release: &Release,
 ) -> Result<Option<u8>, ShelfFault>
     requires { IsJudging K.seen keeper.old code }
-    ensures { ReadsView K.seen keeper.old keeper.new result (λ v r. r
-        ≡ (if holds_number (blocks_of register.now code) v release.now.uprn
-        then (if release.now.hop == hop_of (custody_at v release.now.uprn) + 1
-        then None else Some 40) else Some 20)) }
+    ensures { ReadsView K.seen keeper.old keeper.new result (λ v r.
+        r ≡ release_breach (blocks_of register.now code) v release.now.uprn release.now.hop) }
 {
     let custody = keeper.custody(code, release.uprn)?;
     let allotted = register.allotted(code, release.uprn);
@@ -151,10 +150,8 @@ pub(crate) fn adopt_breach<K: Shelf>(
     adopt: &Adopt,
 ) -> Result<Option<u8>, ShelfFault>
     requires { IsJudging K.seen keeper.old code }
-    ensures { ReadsViews K.seen keeper.old keeper.new result bases.now (λ v others r. r
-        ≡ (if was_released code others adopt.now.blpu.uprn adopt.now.from adopt.now.hop
-        then (if nat_lt (hop_of (custody_at v adopt.now.blpu.uprn)) adopt.now.hop
-        then None else Some 42) else Some 41)) }
+    ensures { ReadsViews K.seen keeper.old keeper.new result bases.now (λ v others r.
+        r ≡ adopt_breach code v others adopt.now.blpu.uprn adopt.now.from adopt.now.hop) }
 {
     if !was_released(keeper, code, bases, adopt)? {
         return Ok(Some(rule::UNRELEASED));

@@ -1,12 +1,11 @@
 //! The record rules, asked of any keeper.
-ghost use Rattle.std.specs.Prelude.{◌≡◌, ℕ, false, true, List, Some, None, if◌then◌else◌};
-ghost use Rattle.std.specs.FinMap as map;
-ghost use Rattle.std.specs.Option.{option_map_or};
+ghost use Rattle.std.specs.Prelude.{◌≡◌, ℕ, false, true, List};
 ghost use Rattle.gaz_records.specs.Items.{is_entry};
 ghost use Rattle.gaz_records.specs.Keys.{key_of};
 ghost use Rattle.gaz_register.specs.Registers.{Blocks, blocks_of};
-ghost use Rattle.gaz_views.specs.View.{View, holds, was_used};
-ghost use Rattle.gaz_rules.specs.Rules.{first_broken, is_moved, is_outside, record_rules, stays};
+ghost use Rattle.gaz_views.specs.View.{View};
+ghost use Rattle.gaz_rules.specs.Rules.{delete_breach, first_broken, insert_breach, is_moved};
+ghost use Rattle.gaz_rules.specs.Rules.{is_outside, record_rules, stays, update_breach};
 ghost use Rattle.gaz_rules.specs.Working.{IsJudging, ReadsView, ReadsViews};
 
 use crate::custody_rules::{adopt_breach, holds_number, release_breach};
@@ -56,7 +55,7 @@ fn is_moved(old: &Item, new: &Item) -> bool
 fn insert_breach<K: Shelf>(keeper: &mut K, code: Code, key: &Key) -> Result<Option<u8>, ShelfFault>
     requires { IsJudging K.seen keeper.old code }
     ensures { ReadsView K.seen keeper.old keeper.new result
-        (λ view r. r ≡ (if was_used view key.now then Some 21 else None)) }
+        (λ view r. r ≡ insert_breach view key.now) }
 {
     if keeper.ever(code, key)? {
         return Ok(Some(rule::USED_AGAIN));
@@ -72,9 +71,8 @@ fn update_breach<K: Shelf>(
     item: &Item,
 ) -> Result<Option<u8>, ShelfFault>
     requires { IsJudging K.seen keeper.old code }
-    ensures { ReadsView K.seen keeper.old keeper.new result (λ view r. r
-        ≡ option_map_or (λ old. if is_moved old item.now then Some 24 else None)
-        (map.get view.items key.now) (Some 22)) }
+    ensures { ReadsView K.seen keeper.old keeper.new result
+        (λ view r. r ≡ update_breach view key.now item.now) }
 {
     let Some(old) = keeper.current(code, key)? else {
         return Ok(Some(rule::MISSING));
@@ -90,8 +88,8 @@ fn delete_breach<K: Shelf>(
     item: &Item,
 ) -> Result<Option<u8>, ShelfFault>
     requires { IsJudging K.seen keeper.old code }
-    ensures { ReadsView K.seen keeper.old keeper.new result (λ view r. r
-        ≡ (if holds view key.now then (if stays item.now then Some 23 else None) else Some 22)) }
+    ensures { ReadsView K.seen keeper.old keeper.new result
+        (λ view r. r ≡ delete_breach view key.now item.now) }
 {
     if !is_there(keeper, code, key)? {
         return Ok(Some(rule::MISSING));

@@ -1,12 +1,11 @@
 -- The accounts of all custodians.
-use Rattle.std.specs.Prelude.{ℕ, List, slice_get, unwrap_or}
+use Rattle.std.specs.Prelude.{ℕ, List, unwrap_or}
 use Rattle.std.specs.BTreeMap.{is_at}
 use Rattle.std.specs.Map.{lookup}
 use Rattle.std.specs.Ordering.{nat_cmp}
-use Rattle.gaz_views.specs.Judgements.{views}
+use Rattle.gaz_views.specs.Judgements.{view_behind}
 use Rattle.gaz_views.specs.Lawful.{IsLawfulView, IsLawfulView-prop}
 use Rattle.gaz_views.specs.Accounts.{Account, empty_account}
-use Rattle.gaz_views.specs.View.{empty_view}
 use Rattle.gaz_keeper.specs.Board.{Board}
 
 -- a custodian without an account has an empty one
@@ -19,8 +18,7 @@ board_of es = λ c. (account_of es c).judged
 
 -- each view of a custodian is lawful
 pub record IsLawfulAccount (a : Account) : Type 0 where
-  pub judged : (volume : ℕ)
-      → IsLawfulView (unwrap_or (slice_get (views a.judged) volume) empty_view)
+  pub judged : (volume : ℕ) → IsLawfulView (view_behind a.judged volume)
   pub working : IsLawfulView a.working
 
 abbrev pub AreLawful : List (ℕ × Account) → Type 0

@@ -17,7 +17,8 @@ use std::alloc::AllocError;
 
 impl Accounts {
     /// Whether an LPI or a cross reference, of whatever status, names a BLPU, in a custodian's last
-    /// view or its working one. The accounts stay as they are.
+    /// view or its working one. The accounts stay as they are. `AllocError` also where the
+    /// custodian has no account.
     pub fn tied(&mut self, code: Code, volume: u64, uprn: Uprn) -> Result<bool, AllocError>
         requires { length (account_of self.old.by_code.entries code).judged ≤ volume }
         ensures tied { IfOk result (λ is.

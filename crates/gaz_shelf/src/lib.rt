@@ -12,6 +12,5 @@ mod mem_passing;
 mod mem_shelf;
 mod restoring;
 
-pub use gaz_keeper::{Inbox, Property, Shelf, ShelfFault, Verdict};
 pub use gaz_ledger::Seed;
 pub use mem_shelf::MemShelf;

@@ -14,9 +14,9 @@ use gaz_views::Custody;
 
 impl MemShelf {
     /// Puts the life of an item, an entry, back into the views of a custodian: it stood under its
-    /// key from a volume on, and until another where one is given. Both are to be reached, and
-    /// nothing is to stand there from then on; else it is refused. Where it isn't put back, nothing
-    /// changes.
+    /// key from a volume on, and until another where one is given. The custodian is to have
+    /// judgements, both volumes are to be reached, and nothing is to stand there from then on; else
+    /// it is refused, by `Memory` too. Where it isn't put back, nothing changes.
     pub fn restore(
         &mut self,
         code: Code,
@@ -36,10 +36,10 @@ impl MemShelf {
         Ok(self.accounts.restore(code, born, gone, item)?)
     }
 
-    /// Puts back what became of a number of a custodian at a volume. That is to be reached, and
-    /// nothing is to stand at its BLPU's key from then on, which counts as used; else it is
-    /// refused. What became of the number later is to be put back after that. After a fault nothing
-    /// is said of the views.
+    /// Puts back what became of a number of a custodian at a volume. The custodian is to have
+    /// judgements, the volume is to be reached, and nothing is to stand at its BLPU's key from then
+    /// on, which counts as used; else it is refused, by `Memory` too. What became of the number
+    /// later is to be put back after that. After a fault nothing is said of the views.
     pub fn restore_passage(
         &mut self,
         code: Code,

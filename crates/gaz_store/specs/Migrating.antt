@@ -10,8 +10,8 @@ use Rattle.gaz_kept.specs.Migrated.{IsFirstKept, first_content_in}
 use Rattle.gaz_kept.specs.Opening.{schema_number}
 use Rattle.gaz_kept.specs.OpeningFirst.{IsOfFirst}
 
--- of the tables of schema 1, as a store of this register: it stands for what they did, and a stop
--- leaves just that
+-- a store of this register was made of the tables of schema 1: it stands for what they did, and a
+-- stop leaves just that
 pub record IsMoved (old new : State) (register : List ℕ) (now : Seen) : Type 0 where
   pub idle : now.progress ≡ Idle
   pub failures : now.failures ≡ 0

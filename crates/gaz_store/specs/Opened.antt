@@ -16,9 +16,9 @@ use Rattle.gaz_kept.specs.declared.refusal.StoreRefusal.{StoreRefusal}
 use Rattle.gaz_calls.specs.Seen.{LeavesKept}
 use Rattle.gaz_store.specs.declared.store.Store.{Store}
 
--- of a database that has room, as a store of this register, over an open connection: nothing is
--- received or judged, a stop leaves just that, and each table that was there is there still, with
--- the rows it had
+-- a store of this register was made in a database that has room, over an open connection: nothing
+-- is received or judged, a stop leaves just that, and each table that was there is there still,
+-- with the rows it had
 pub record IsMade (old new : State) (register : List ℕ) (now : Seen) : Type 0 where
   pub idle : now.progress ≡ Idle
   pub failures : now.failures ≡ 0
@@ -30,8 +30,8 @@ pub record IsMade (old new : State) (register : List ℕ) (now : Seen) : Type 0 
   pub of_register : now.unharmed → HasRoom old.now.schema → IsOf register (rows_of new.now meta)
   pub others : now.unharmed → HasRoom old.now.schema → KeepsEach old.now new.now
 
--- of a store's tables, as a store of this register: they stand for what they did, and a stop
--- leaves nothing more
+-- a store's tables were opened as a store of this register: they stand for what they did, and a
+-- stop leaves nothing more
 pub record IsOpened (old new : State) (register : List ℕ) (now : Seen) : Type 0 where
   pub idle : now.progress ≡ Idle
   pub failures : now.failures ≡ 0
@@ -43,8 +43,8 @@ pub record IsOpened (old new : State) (register : List ℕ) (now : Seen) : Type 
   pub leaves : Survives old new (λ _. ⊥)
   pub whole : LeavesKept register old → now.whole
 
--- a connection that was handed back is outside a transaction, over what was there; and of a store
--- that was there a stop leaves what it could before
+-- a connection was handed back outside a transaction, over what was there; and of a store that was
+-- there a stop leaves what it could before
 pub record IsRefused {S : Type 0} (g : Ghosts S) (before after : Held S) : Type 0 where
   pub over : after.in_transaction ≡ false
   pub rests : HasCleanDisk (state g after) → Rests (state g before) (state g after)

@@ -124,7 +124,7 @@ impl Judgement {
         ensures { AsksTables tables.old tables.new result
             (λ db b. Beside db self.now (λ w. b ≡ approved_on w usrn lang)) }
     {
-        if self.changes.approved_on(&[], usrn, lang) {
+        if self.changes.approved_on(usrn, lang) {
             return Ok(true);
         }
         tables.left_on(self.code, usrn, lang, Some(&self.changes))
@@ -139,7 +139,7 @@ impl Judgement {
         ensures { AsksTables tables.old tables.new result
             (λ db b. Beside db self.now (λ w. b ≡ has_children w uprn)) }
     {
-        if self.changes.has_children(&[], uprn) {
+        if self.changes.has_children(uprn) {
             return Ok(true);
         }
         tables.left_part(self.code, Kind::Blpu, uprn, Some(&self.changes))
@@ -171,7 +171,7 @@ impl Judgement {
             (λ db b. Beside db self.old (λ w. b ≡ tied w uprn)) }
         ensures same { self.new ≡ self.old }
     {
-        let Ok(own) = self.changes.tied(&[], uprn) else {
+        let Ok(own) = self.changes.tied(uprn) else {
             return Err(ShelfFault::Memory);
         };
         if own {

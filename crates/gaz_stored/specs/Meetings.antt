@@ -1,6 +1,6 @@
 -- Peers that come to a hub one after another, and what became of each.
 use Rattle.std.specs.Prelude.{◌≡◌, ⊤, ℕ, Bool, true, List, [], ◌∷◌, Option, Some, None}
-use Rattle.gaz_exchange.specs.Failing.{NeverFails}
+use Rattle.gaz_http.specs.Failing.{NeverFails}
 
 -- what came of a connection: none could be had; or a peer came, of whom these bytes are still to be
 -- read and to whom these are written, where that is known; or it was left, with these unread and

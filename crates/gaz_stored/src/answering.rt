@@ -10,7 +10,8 @@ ghost use Rattle.gaz_stored.specs.Ways.{Converses};
 
 use crate::handing::HandedBack;
 use crate::keepers::converse_with;
-use gaz_exchange::{Served, Sink, Source, Stopped};
+use gaz_exchange::{Served, Stopped};
+use gaz_http::{Sink, Source};
 use gaz_register::Register;
 use gaz_shelf::{MemShelf, Seed};
 use gaz_store::{OfRegister, Store};

@@ -88,6 +88,8 @@ fn attend_over<S: Alter + Drop, N: OfRegister, P: Peers, W: Write>(
 ///
 /// There is no store in the cases of `ask_opened`, in its order; then comes `NoPort` where there is
 /// no port. Nothing is written then, nobody is answered, and the database holds what it held.
+/// `Unwritten` where the writer failed in saying the port: a part of the line may be written, and
+/// nobody is answered.
 pub fn serve_opened<S: Alter + Drop, P: Peers, W: Write>(
     alloc: Global,
     seed: Seed,

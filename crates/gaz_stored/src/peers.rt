@@ -1,7 +1,7 @@
 //! Where peers come from, one after another.
 ghost use Rattle.gaz_stored.specs.Meetings.{Left, Meeting, came};
 
-use gaz_exchange::{Sink, Source};
+use gaz_http::{Sink, Source};
 use std::alloc::Global;
 
 /// Where peers come from, one after another. What came of each is told, where that is known; of

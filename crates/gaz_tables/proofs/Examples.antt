@@ -14,10 +14,10 @@ use Rattle.gaz_tables.proofs.CreatingExamples.{creating_holds}
 use Rattle.gaz_tables.proofs.CustodyExamples.{custody_holds}
 use Rattle.gaz_tables.proofs.MigratingExamples.{migrating_holds}
 use Rattle.gaz_tables.proofs.StoreExamples.{stores_hold}
-use Rattle.gaz_tables.specs.Shows.{Picks}
+use Rattle.gaz_tables.specs.Shows.{IsAnyRow, Picks}
 use Rattle.gaz_tables.specs.Examples.{WorkedVersions, WorkedRowids, WorkedReceiveds, WorkedExamples, flat_2, flat_3, shop, house, four_rows, rejected_1, held_3, of_1002, three_files}
 use Rattle.gaz_tables.specs.Receiveds.{IsVolume, IsAbove}
-use Rattle.gaz_tables.specs.Rowids.{IsAnyRow, IsPlacedBehind}
+use Rattle.gaz_tables.specs.Rowids.{IsPlacedBehind}
 use Rattle.gaz_tables.specs.Versions.{IsOfKey, IsOfKeyUntil, IsApprovedOf, IsHolding, IsOfBirth, Closes, FindsNewest, FindsNewestUntil, gone_at, id_place, life_shown}
 
 -- the row of this rowid

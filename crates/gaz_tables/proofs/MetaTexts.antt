@@ -23,6 +23,7 @@ use Rattle.gaz_sql_facts.specs.Meaning.{MeansAnywhere, OnTable}
 use Rattle.gaz_sql_facts.specs.Selects.{selecting, equals, Selects}
 use Rattle.gaz_sql_facts.proofs.Free.{free}
 use Rattle.gaz_sql_facts.proofs.Inserts.{inserted}
+use Rattle.gaz_tables.specs.Shows.{IsAnyRow}
 use Rattle.gaz_tables.proofs.Shown.{answered, shows_some}
 use Rattle.gaz_tables.proofs.Standing.{apart, changes_table, command_here, means_here, rest, stands}
 use Rattle.gaz_tables.proofs.Tests.{Test, SuitsAll, means, met}
@@ -30,7 +31,7 @@ use Rattle.gaz_sql_facts.proofs.TextMoves.{anywhere}
 use Rattle.gaz_sql_facts.proofs.Texts.{IsSelect, is_select}
 use Rattle.gaz_sql_facts.proofs.Typed.{cast_null, cast_int}
 use Rattle.gaz_sql_facts.proofs.Updates.{updated, changed_to}
-use Rattle.gaz_tables.specs.Metas.{AddsMeta, FindsTwo, IsAny, Rewrites, id_of, rows_text}
+use Rattle.gaz_tables.specs.Metas.{AddsMeta, FindsTwo, Rewrites, id_of, rows_text}
 use Rattle.gaz_tables.specs.Schema.{meta_columns, meta}
 use Rattle.gaz_tables.specs.Stores.{ChangesTable, HasTables}
 use Rattle.gaz_tables.specs.Tables.{HasTable, rows_of, tree_of}
@@ -50,7 +51,7 @@ pub rows_here : (db : Database) → HasTable meta db.schema → IsSelect db.sche
 rows_here db has = is_select db.schema rows_text _ _ (means_here meta db.schema has rows_text rows_on rows_anywhere)
 
 pub rows_found : (db : Database) (r : Result (Vec Row Global) Error) → IfOk r (λ rows. Selects [] rows_terms [] (Some 2) (rows_of db meta) [] rows.items) → IfOk r (λ rows. FindsTwo (rows_of db meta) rows.items)
-rows_found db r h = answered r (λ answer s. shows_some [] rows_terms [] (rows_of db meta) IsAny (λ r there p. tt) (λ r there fits. refl) 2 answer s) h
+rows_found db r h = answered r (λ answer s. shows_some [] rows_terms [] (rows_of db meta) IsAnyRow (λ r there p. tt) (λ r there fits. refl) 2 answer s) h
 
 abbrev pub insert_terms : List Term
 insert_terms = lit (Int (pos 1)) ∷ lit Null ∷ col 0 0 ∷ col 0 1 ∷ []

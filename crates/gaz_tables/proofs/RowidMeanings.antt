@@ -20,9 +20,9 @@ use Rattle.gaz_tables.proofs.RowidQueries.{behind_tests, first_tests, row_terms}
 use Rattle.gaz_tables.proofs.Shown.{answered, shows_page}
 use Rattle.gaz_tables.proofs.Tests.{Test, SuitsAll, means, met}
 use Rattle.gaz_tables.proofs.Unique.{page_rises}
-use Rattle.gaz_tables.specs.Rowids.{FindsBehind, FindsFirst, FindsInTurn, IsAnyRow, IsPlacedBehind, row_shown, rowid_of, rowid_place}
+use Rattle.gaz_tables.specs.Rowids.{FindsBehind, FindsFirst, FindsInTurn, IsPlacedBehind, row_shown, rowid_of, rowid_place}
 use Rattle.gaz_tables.specs.Schema.{version2}
-use Rattle.gaz_tables.specs.Shows.{ShowsPage}
+use Rattle.gaz_tables.specs.Shows.{IsAnyRow, ShowsPage}
 use Rattle.gaz_tables.specs.Stores.{HasTables}
 use Rattle.gaz_tables.specs.Tables.{rows_of}
 

@@ -4,7 +4,7 @@ use Rattle.sqlite.specs.declared.types.Value.{Value}
 use Rattle.sqlite.specs.declared.types.Value.TheVariants.{Null, Int, Text}
 use Rattle.sqlite.specs.Order.{Row, column}
 use Rattle.gaz_sql_facts.specs.Changes.{IsAdded, IsChanged}
-use Rattle.gaz_tables.specs.Shows.{ShowsSome}
+use Rattle.gaz_tables.specs.Shows.{IsAnyRow, ShowsSome}
 
 -- a row's values: its rowid is `id`, whose own place is left NULL
 abbrev pub id_of : Row → Value
@@ -22,10 +22,6 @@ meta_row number register = Int (pos 1) ∷ Null ∷ Int (pos number) ∷ Text re
 abbrev pub meta_shown : Row → Row
 meta_shown r = id_of r ∷ number_of r ∷ register_of r ∷ []
 
--- every row fits
-abbrev pub IsAny : Row → Type 0
-IsAny r = Unit {0}
-
 -- the row of id 1
 abbrev pub IsFirst : Row → Type 0
 IsFirst r = id_of r ≡ Int (pos 1)
@@ -36,7 +32,7 @@ rows_text = codes "SELECT id, number, register FROM meta LIMIT 2"
 
 -- at most two of the rows
 abbrev pub FindsTwo : List Row → List Row → Type 0
-FindsTwo rows answer = ShowsSome IsAny 2 meta_shown rows answer
+FindsTwo rows answer = ShowsSome IsAnyRow 2 meta_shown rows answer
 
 -- the rows and one of id 1
 abbrev pub AddsMeta : ℕ → List ℕ → List Row → List Row → Type 0

@@ -1,11 +1,11 @@
 -- What the queries find that go through `version2` in the order of its rowids.
-use Rattle.std.specs.Prelude.{◌≡◌, ⊤, ℕ, ℤ, ◌<ℤ◌, List, [], ◌∷◌}
+use Rattle.std.specs.Prelude.{◌≡◌, ℕ, ℤ, ◌<ℤ◌, List, [], ◌∷◌}
 use Rattle.std.specs.declared.cmp.Ordering.TheVariants.{Less}
 use Rattle.sqlite.specs.declared.types.Value.{Value}
 use Rattle.sqlite.specs.declared.types.Value.TheVariants.{Int}
 use Rattle.sqlite.specs.Order.{Row, column, value_cmp}
 use Rattle.sqlite_trees.specs.Tree.{IsAscending}
-use Rattle.gaz_tables.specs.Shows.{ShowsPage}
+use Rattle.gaz_tables.specs.Shows.{IsAnyRow, ShowsPage}
 use Rattle.gaz_tables.specs.Versions.{blpu_of, body_of, born_of, cust_of, gone_of, id_of, kind_of}
 use Rattle.gaz_tables.specs.Versions.{hop_of, lang_of, live_of, street_of}
 
@@ -19,10 +19,6 @@ rowid_place = 0
 -- the row's rowid comes behind a number
 abbrev pub IsPlacedBehind : ℤ → Row → Type 0
 IsPlacedBehind after r = (n : ℤ) × (rowid_of r ≡ Int n) × (after <ℤ n)
-
--- any row
-abbrev pub IsAnyRow : Row → Type 0
-IsAnyRow r = ⊤
 
 -- all of a row is shown
 abbrev pub row_shown : Row → Row

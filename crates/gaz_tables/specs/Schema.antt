@@ -81,11 +81,11 @@ receiveds = 4
 abbrev pub metas : ℕ
 metas = 6
 
--- the rows of a store's items
+-- the rows of a store's items, and of what became of numbers
 abbrev pub versions : ℕ
 versions = 7
 
--- the table of schema 1
+-- the items' rows in schema 1; in schema 2 it is empty once a store was migrated
 abbrev pub version : Table
 version = strict (codes "version") old_versions version_columns (1 ∷ 2 ∷ 3 ∷ 8 ∷ []) version_checks
 

@@ -1,10 +1,14 @@
 -- What a SELECT answers, by the values of a table's rows.
-use Rattle.std.specs.Prelude.{◌≡◌, ℕ, ℤ, ◌≤ℤ◌, Bool, true, List, [], ◌∷◌, filter, map, take}
+use Rattle.std.specs.Prelude.{◌≡◌, ⊤, ℕ, ℤ, ◌≤ℤ◌, Bool, true, List, [], ◌∷◌, filter, map, take}
 use Rattle.std.specs.Prelude.{IsPermutation, IsSorted}
 use Rattle.std.specs.Ordering.{on}
 use Rattle.sqlite_value.specs.declared.value.Value.TheVariants.{Int}
 use Rattle.sqlite_value.specs.Order.{Row, column, value_cmp}
 use Rattle.sqlite_rules.specs.Lists.{Has}
+
+-- any row
+abbrev pub IsAnyRow : Row → Type 0
+IsAnyRow r = ⊤
 
 -- the rows that fit, each as often as it is there, in some order
 pub record Picks (Fits : Row → Type 0) (rows chosen : List Row) : Type 0 where

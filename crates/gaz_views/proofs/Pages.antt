@@ -16,7 +16,8 @@ use Rattle.gaz_records.specs.Keys.{key_cmp, key_of}
 use Rattle.gaz_records.specs.declared.item.Item.{Item}
 use Rattle.gaz_records.specs.declared.item.Kind.{Kind}
 use Rattle.gaz_records.specs.declared.key.Key.{Key}
-use Rattle.gaz_views.specs.Reading.{IsKeyed, left_after, next_after}
+use Rattle.gaz_views.specs.Lawful.{IsKeyed}
+use Rattle.gaz_views.specs.Reading.{left_after, next_after}
 use Rattle.gaz_views.specs.View.{View}
 use Rattle.gaz_views.specs.Words.{comes_after, entries, is_of, page, rest_of}
 

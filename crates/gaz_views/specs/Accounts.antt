@@ -1,6 +1,6 @@
 -- What is kept of a custodian.
-use Rattle.std.specs.Prelude.{ℕ, nat_le, if◌then◌else◌, List, [], length, slice_get, unwrap_or}
-use Rattle.gaz_views.specs.Judgements.{Judgement, views}
+use Rattle.std.specs.Prelude.{ℕ, nat_le, if◌then◌else◌, List, [], length}
+use Rattle.gaz_views.specs.Judgements.{Judgement, view_behind}
 use Rattle.gaz_views.specs.View.{View, empty_view}
 
 -- a custodian's judgements, and the view that its next volume has made so far
@@ -14,10 +14,10 @@ empty_account = record { judged = []; working = empty_view }
 
 -- the view after the last judged volume
 abbrev pub last_of : Account → View
-last_of a = unwrap_or (slice_get (views a.judged) (length a.judged)) empty_view
+last_of a = view_behind a.judged (length a.judged)
 
 -- the view after a volume that is judged, and the working view after any later one
 abbrev pub view_in : Account → ℕ → View
 view_in account volume =
     if nat_le volume (length account.judged)
-    then unwrap_or (slice_get (views account.judged) volume) empty_view else account.working
+    then view_behind account.judged volume else account.working

@@ -8,7 +8,7 @@ abbrev pub hop_in : Custody → ℕ
 hop_in (Released to hop) = hop
 hop_in (Adopted from hop) = hop
 
--- a custodian's own hop: none where the number never passed through its gazetteer
+-- a custodian's own hop: 0 where the number never passed through its gazetteer
 abbrev pub hop_of : Option Custody → ℕ
 hop_of None = 0
 hop_of (Some custody) = hop_in custody

@@ -21,7 +21,7 @@ use Rattle.gaz_views.specs.declared.verdict.Verdict.TheVariants.{Applied, Reject
 abbrev pub street : ℕ → Item
 street usrn = item.Street (record {
   usrn = usrn;
-  sort = 1;
+  street_type = 1;
   start = record { year = 2001; month = 4; day = 1 };
   end = None;
 })

@@ -1,10 +1,21 @@
 -- What every view of a gazetteer keeps to.
-use Rattle.std.specs.Prelude.{◌≡◌, true}
+use Rattle.std.specs.Prelude.{◌≡◌, Some, true}
 use Rattle.std.specs.Coded.{Coded-set, coded_bool}
+use Rattle.std.specs.FinMap as map
+use Rattle.gaz_records.specs.Items.{is_entry}
+use Rattle.gaz_records.specs.Keys.{key_of}
 use Rattle.gaz_records.specs.contracts.key.Key as key
+use Rattle.gaz_records.specs.declared.item.Item.{Item}
 use Rattle.gaz_records.specs.declared.key.Key.{Key}
-use Rattle.gaz_views.specs.Reading.{HasEntries, IsKeyed}
 use Rattle.gaz_views.specs.View.{View, holds, was_used}
+
+-- each item is an entry: nothing else stands in a view
+abbrev pub HasEntries : View → Type 0
+HasEntries v = (k : Key) (i : Item) → map.get v.items k ≡ Some i → is_entry i ≡ true
+
+-- each item stands under its own key
+abbrev pub IsKeyed : View → Type 0
+IsKeyed v = (k : Key) (i : Item) → map.get v.items k ≡ Some i → key_of i ≡ k
 
 -- each item is an entry and stands under its own key, and each key at which one stands was used
 pub record IsLawfulView (v : View) : Type 0 where

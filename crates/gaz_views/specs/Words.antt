@@ -83,11 +83,15 @@ approved_on v usrn lang = list_any (λ e. is_approved_on usrn lang e.1) (entries
 abbrev pub has_children : View → ℕ → Bool
 has_children v uprn = list_any (λ e. is_child_of uprn e.1) (entries v)
 
--- an LPI or a cross reference of the BLPU, of whatever status
+-- the BLPU that a cross reference names, or an LPI of whatever status
+abbrev pub blpu_named : Item → Option ℕ
+blpu_named (item.Xref x) = Some x.uprn
+blpu_named (item.Lpi l) = Some l.uprn
+blpu_named _ = None
+
+-- the item names this BLPU
 abbrev pub names : ℕ → Item → Bool
-names uprn (item.Xref x) = x.uprn == uprn
-names uprn (item.Lpi l) = l.uprn == uprn
-names uprn _ = false
+names uprn i = option_map_or (λ n. n == uprn) (blpu_named i) false
 
 -- an LPI or a cross reference names the BLPU
 abbrev pub tied : View → ℕ → Bool

@@ -1,5 +1,6 @@
 //! What became of a number that passes between custodians.
 ghost use Rattle.std.specs.Prelude.{◌≡◌, ◌≤◌};
+ghost use Rattle.gaz_ids.specs.Limits.{last_hop};
 ghost use Rattle.gaz_views.specs.Custody.{hop_in, hop_of};
 
 use gaz_ids::{Code, Hop};
@@ -14,10 +15,10 @@ pub enum Custody {
 }
 
 impl Custody {
-    /// How often the number had passed on by then, this time too: 1 to 9,999.
+    /// How often the number had passed on by then, this time too: 1 to `LAST_HOP`.
     pub fn hop(&self) -> u64
         ensures value { result ≡ hop_in self.now }
-        ensures range { (1 ≤ result) × (result ≤ 9999) }
+        ensures range { (1 ≤ result) × (result ≤ last_hop) }
     {
         match self {
             Custody::Released { hop, .. } => hop.number(),
@@ -26,11 +27,11 @@ impl Custody {
     }
 }
 
-/// How often a number had passed on of which this became last: at most 9,999, and 0 where nothing
-/// did.
+/// How often a number had passed on of which this became last: at most `LAST_HOP`, and 0 where
+/// nothing did.
 pub fn hop_of(custody: &Option<Custody>) -> u64
     ensures value { result ≡ hop_of custody.now }
-    ensures range { result ≤ 9999 }
+    ensures range { result ≤ last_hop }
 {
     match custody {
         None => 0,

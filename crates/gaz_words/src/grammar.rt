@@ -9,9 +9,10 @@ use clap::builder::ValueParser;
 use clap::{Arg, ArgAction, Command};
 use std::alloc::{AllocError, Global};
 
-/// The greatest port, and the most connections.
+// The greatest port.
 const MOST_PORT: u64 = 65_535;
 
+// The most connections.
 const MOST_CONNECTIONS: u64 = 1_000_000;
 
 // A word that stands in its place, and has to.

@@ -10,10 +10,10 @@ use Rattle.gaz_commands.specs.Saying.{is_said_done, text_of}
 use Rattle.gaz_commands.specs.declared.said.Said.{Said}
 use Rattle.gaz_commands.specs.declared.said.Said.TheVariants as said
 use Rattle.gaz_exchange.specs.Conversing.{Transfer}
-use Rattle.gaz_exchange.specs.Sending.{IsPut}
+use Rattle.gaz_http.specs.Writing.{IsPut}
 use Rattle.gaz_exchange.specs.declared.conversation.Served.{Served}
-use Rattle.gaz_exchange.specs.declared.supply.Cause.{Cause}
-use Rattle.gaz_exchange.specs.declared.supply.Cause.TheVariants as cause
+use Rattle.gaz_http.specs.declared.supply.Cause.{Cause}
+use Rattle.gaz_http.specs.declared.supply.Cause.TheVariants as cause
 use Rattle.gaz_stored.specs.Unheard.{IsUnheard}
 use Rattle.gaz_words.specs.Meaning.{Means}
 use Rattle.gaz_words.specs.Words.{asks_play}

@@ -1,9 +1,14 @@
 -- A site in memory, of which it is known what is done at it: texts at paths, the files of one
 -- store, and a peer that may come.
-use Rattle.std.specs.Prelude.{◌≡◌, ⊤, ℕ, List, [], take, Option, Some, None}
+use Rattle.std.specs.Prelude.{◌≡◌, ⊤, ℕ, List, [], bytes_eq, codes, take, Option, Some, None}
+use Rattle.std.specs.Prelude.{if◌then◌else◌}
 use Rattle.sqlite_disk.specs.declared.Files.{Files}
 use Rattle.gaz_stored.specs.Meetings.{Meeting, Missed, Came, Left}
 use Rattle.gazhub.specs.Sites.{Closed, Deed, Listened, Met, Opened, Read}
+
+-- the register's text at its path, the change file's at every other
+abbrev pub text_at : (register change path : List ℕ) → List ℕ
+text_at register change path = if bytes_eq path (codes "hub.toml") then register else change
 
 -- a text is read, of a longer one so many bytes; or there is no memory
 abbrev pub IsReadOf : List ℕ → ℕ → Option (List ℕ) → Type 0

@@ -7,7 +7,7 @@ pub mod Sites
 pub mod Working
 pub mod Serving
 pub mod Commands
+pub mod Desks
 pub mod WorkedJoined
 pub mod WorkedSites
 pub mod WorkedEndings
-pub mod Desks

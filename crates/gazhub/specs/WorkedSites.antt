@@ -1,6 +1,6 @@
 -- Worked examples on what is done at a site, and on how the program ends.
 use Rattle.std.specs.Prelude.{◌≡◌, ◌≤◌, ◌++◌, [], ◌∷◌, ℕ, suc, true, List, map, Option, Some, None}
-use Rattle.std.specs.Prelude.{Ok, Err}
+use Rattle.std.specs.Prelude.{codes, Ok, Err}
 use Rattle.std.specs.Borrow.{Bor}
 use Rattle.clap.specs.declared.error.kind.ErrorKind.TheVariants as kind
 use Rattle.sqlite_disk.specs.declared.Disk as disk
@@ -13,6 +13,7 @@ use Rattle.gaz_stored.specs.Meetings.{Missed, Came, Left}
 use Rattle.gaz_words.specs.declared.command.Call.TheVariants.{Status, Submit}
 use Rattle.gaz_words.specs.declared.command.Places.{Places}
 use Rattle.gazhub.specs.Commands.{IsExplained, IsTold}
+use Rattle.gazhub.specs.Desks.{IsReadOf, text_at}
 use Rattle.gazhub.specs.Serving.{AreLeft, ServesRest}
 use Rattle.gazhub.specs.Sites.{Deed, Does, FindsRegister, Listened, Met, Opened, Read, ReadsFor}
 use Rattle.gazhub.specs.Sites.{WithFiles, any_length}
@@ -33,6 +34,12 @@ module _ {D : Type 0} (g : disk.Ghosts D) where
   pub record WorkedSites : Type 0 where
     pub read : (path : List ℕ) → Does noted [] (Read path any_length None ∷ []) (read_in_vain path)
     pub not_read : (path : List ℕ) → ¬ Does noted [] (Read path any_length None ∷ []) []
+    -- of a longer text so many bytes are read
+    pub read_some : IsReadOf (codes "abc") 2 (Some (codes "ab"))
+    pub not_more : ¬ IsReadOf (codes "abc") 2 (Some (codes "abc"))
+    -- at the register's path stands its text, at any other the change file's
+    pub register_there : text_at (codes "r") (codes "c") (codes "hub.toml") ≡ codes "r"
+    pub change_there : text_at (codes "r") (codes "c") (codes "flat.csv") ≡ codes "c"
     -- a file that can't be read gives no register
     pub unreadable : (path : List ℕ)
         → FindsRegister noted [] (read_in_vain path) path (Err Unreadable)

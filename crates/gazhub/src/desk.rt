@@ -1,10 +1,10 @@
 //! A site in memory, for tests.
-ghost use Rattle.std.specs.Prelude.{bytes_eq, codes, if◌then◌else◌, option_map};
-ghost use Rattle.gazhub.specs.Desks.{IsDone, IsMet};
+ghost use Rattle.std.specs.Prelude.{option_map};
+ghost use Rattle.gazhub.specs.Desks.{IsDone, IsMet, text_at};
 ghost use Rattle.gazhub.specs.Sites.{Closed};
 
 use crate::site::{Purpose, Site};
-use gaz_exchange::InMemory;
+use gaz_http::InMemory;
 use gaz_quiet::QuietDisk;
 use gaz_stored::Peers;
 use sqlite::{Files, Options};
@@ -49,8 +49,7 @@ impl Peers for Desk {
     type Writer = Vec<u8>;
 
     ghost meets = { IsMet
-        (λ desk path. if bytes_eq path (codes "hub.toml")
-        then desk.register.now else desk.change.now)
+        (λ desk. text_at desk.register.now desk.change.now)
         (λ desk. desk.files) (λ desk. option_map (λ said. said.now) desk.says)
         (λ desk. desk.told.items) };
 
@@ -68,8 +67,7 @@ impl Site for Desk {
     type Medium = QuietDisk;
 
     ghost done = { IsDone
-        (λ desk path. if bytes_eq path (codes "hub.toml")
-        then desk.register.now else desk.change.now)
+        (λ desk. text_at desk.register.now desk.change.now)
         (λ desk. desk.files) (λ desk. option_map (λ said. said.now) desk.says)
         (λ desk. desk.told.items) };
 
@@ -93,8 +91,7 @@ impl Site for Desk {
 
     fn close(&mut self, files: Option<Files<QuietDisk>>)
         ensures { IsDone
-            (λ desk path. if bytes_eq path (codes "hub.toml")
-            then desk.register.now else desk.change.now)
+            (λ desk. text_at desk.register.now desk.change.now)
             (λ desk. desk.files) (λ desk. option_map (λ said. said.now) desk.says)
             (λ desk. desk.told.items) self.old (Closed files) self.new }
     {

@@ -18,7 +18,7 @@ use crate::site::Site;
 use clap::Error;
 use clap::error::ErrorKind;
 use gaz_commands::{Said, print};
-use gaz_exchange::write_all;
+use gaz_http::write_all;
 use gaz_ledger::Seed;
 use gaz_words::{Command, asks_play, read};
 use std::alloc::Global;

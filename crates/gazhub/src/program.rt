@@ -8,7 +8,8 @@ ghost use Rattle.gazhub.specs.Playing.{IsNew, Plays};
 
 use crate::ending::Ending;
 use crate::sample::SAMPLE;
-use gaz_exchange::{Cause, Served, Sink, Source, Stopped};
+use gaz_exchange::{Served, Stopped};
+use gaz_http::{Cause, Sink, Source};
 use gaz_ledger::Seed;
 use gaz_quiet::{QuietDisk, new_database};
 use gaz_register::Register;

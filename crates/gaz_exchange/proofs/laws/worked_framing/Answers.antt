@@ -1,38 +1,26 @@
 use Rattle.std.proofs.Common.{refl}
 use Rattle.httparse.proofs.OnLiterals.{httparse_on_literals}
-use Rattle.gaz_exchange.specs.Framing.{is_closing, length_of}
+use Rattle.gaz_exchange.specs.Framing.{length_of}
 use Rattle.gaz_exchange.proofs.laws.worked_framing.Goals as goal
 
 pub returns : goal.returns
-unfolding is_closing length_of httparse_on_literals
+unfolding length_of httparse_on_literals
 returns c = record {
-  lengths = record {
-    told = refl;
-    other_case = refl;
-    not_told = refl;
-    coded = refl;
-    coded_and_told = refl;
-    twice = refl;
-    empty = refl;
-    signed = refl;
-    two_in_one = refl;
-    none = refl;
-    greatest = refl;
-    one_more = refl;
-    of_20_digits = refl;
-    leading_zeros = refl;
-    asked = refl;
-    asked_told = refl;
-    asked_coded = refl;
-  };
-  closings = record {
-    goes_on = refl;
-    of_http_1_0 = refl;
-    kept_alive = refl;
-    close = refl;
-    among_others = refl;
-    in_a_second = refl;
-    longer_word = refl;
-    other_header = refl;
-  };
+  told = refl;
+  other_case = refl;
+  not_told = refl;
+  coded = refl;
+  coded_and_told = refl;
+  twice = refl;
+  empty = refl;
+  signed = refl;
+  two_in_one = refl;
+  none = refl;
+  greatest = refl;
+  one_more = refl;
+  of_20_digits = refl;
+  leading_zeros = refl;
+  asked = refl;
+  asked_told = refl;
+  asked_coded = refl;
 }

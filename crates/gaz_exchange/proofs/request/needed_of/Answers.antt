@@ -1,8 +1,8 @@
 use Rattle.std.proofs.Common.{◌≡◌, ◌∙◌, ap, map, take}
 use Rattle.httparse.specs.Spans.{header_bytes}
+use Rattle.gaz_http.specs.Headers.{headers_of, is_closing}
 use Rattle.gaz_exchange.specs.Asking.{method_of}
-use Rattle.gaz_exchange.specs.Framing.{is_closing, is_post, is_post_method, length_of}
-use Rattle.gaz_exchange.specs.Headers.{headers_of}
+use Rattle.gaz_exchange.specs.Framing.{is_post, is_post_method, length_of}
 use Rattle.gaz_exchange.proofs.request.needed_of.Goals as goal
 
 pub returns-clause-needed : goal.returns-clause-needed

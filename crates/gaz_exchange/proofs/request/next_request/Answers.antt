@@ -1,7 +1,8 @@
 use Rattle.std.proofs.Common.{◌≡◌, ◌∙◌, ◌++◌, ap, drop, append_assoc}
 use Rattle.std.proofs.KnownBytes.{Consumes-trans}
-use Rattle.gaz_exchange.specs.Heads.{BeginsWith}
-use Rattle.gaz_exchange.proofs.IncomingFacts.{bad_head, begins_more, head_then}
+use Rattle.gaz_http.specs.Heads.{BeginsWith}
+use Rattle.gaz_http.proofs.HeadFacts.{begins_more}
+use Rattle.gaz_exchange.proofs.IncomingFacts.{bad_head, head_then}
 use Rattle.gaz_exchange.proofs.SparingFacts.{read_behind}
 use Rattle.gaz_exchange.proofs.request.next_request.Goals as goal
 

@@ -17,6 +17,10 @@ pub returns : goal.returns
 returns g c = record {
   read = λ path. (read_in_vain g.D.Disk path, refl, refl);
   not_read = λ path it. absurd (let first = it.1 in let last = it.2 in cc);
+  read_some = refl;
+  not_more = λ e. absurd (cc);
+  register_there = refl;
+  change_there = refl;
   unreadable = λ path. record { bytes = None; does = refl; told = refl };
   not_found = λ path register it.
       let bytes : it.bytes ≡ None = let does = it.does in cc in

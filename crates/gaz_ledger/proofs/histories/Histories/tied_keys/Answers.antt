@@ -1,7 +1,7 @@
 use Rattle.std.proofs.Common.{◌+◌, arith, drop}
 use Rattle.std.proofs.lemmas.List.{drop_all}
 use Rattle.gaz_ledger.proofs.Ranges.{steps}
-use Rattle.gaz_ledger.proofs.Tied.{left_next, left_none}
+use Rattle.gaz_ledger.proofs.TieFacts.{left_next, left_none}
 use Rattle.gaz_ledger.proofs.histories.Histories.tied_keys.Goals as goal
 
 pub loop-key-preserved : goal.loop-key-preserved

@@ -1,6 +1,6 @@
 -- Each key is among those that are left, or under the BLPUs that its items name.
 use Rattle.std.proofs.Common.{drop}
-use Rattle.gaz_ledger.proofs.Tied.{Left}
+use Rattle.gaz_ledger.proofs.TieFacts.{Left}
 use Rattle.gaz_ledger.proofs.histories.Histories.tied_keys.Given as goal
 
 abbrev pub invariant-loop-key : goal.invariant-loop-key

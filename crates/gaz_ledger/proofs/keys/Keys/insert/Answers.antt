@@ -2,6 +2,7 @@ use Rattle.std.proofs.Common.{◌∙◌, ◌||◌, ap, sym}
 use Rattle.std.specs.Ordering.{eq_by_cmp, is_eq}
 use Rattle.gaz_records.specs.Keys.{key_cmp}
 use Rattle.gaz_views.proofs.Outcomes.{where_err}
+use Rattle.gaz_records.proofs.KeyOrder.{keys_same}
 use Rattle.gaz_ledger.proofs.KeySets.{added, known, not_there}
 use Rattle.gaz_ledger.specs.Indexes.{has_key, listed}
 use Rattle.gaz_ledger.specs.declared.keys.Keys.{Keys}
@@ -12,7 +13,7 @@ returns-then-is_eq-clause-ok c = λ k. known c.in-One.one c.args.key (ap is_eq (
 
 pub returns-in_ok-insert-in-Many-clause-ok : goal.returns-in_ok-insert-in-Many-clause-ok
 returns-in_ok-insert-in-Many-clause-ok c =
-    λ k. added c.in-Many.keys.keys c.insert.new.self.keys c.args.key c.in_ok-insert-in-Many.ensures.updates.0 k ∙ ap (λ (ks : Keys). eq_by_cmp key_cmp c.args.key k || has_key (listed ks) k) (sym c.in-Many.is)
+    λ k. added keys_same c.in-Many.keys.keys c.insert.new.self.keys c.args.key c.in_ok-insert-in-Many.ensures.updates.0 k ∙ ap (λ (ks : Keys). eq_by_cmp key_cmp c.args.key k || has_key (listed ks) k) (sym c.in-Many.is)
 
 pub returns-in_err-both-in-One-clause-absent : goal.returns-in_err-both-in-One-clause-absent
 returns-in_err-both-in-One-clause-absent c =

@@ -1,6 +1,7 @@
 use Rattle.std.proofs.Common.{◌∙◌, ◌&&◌, not, ap, sym}
 use Rattle.std.specs.Ordering.{eq_by_cmp, is_eq}
 use Rattle.gaz_records.specs.Keys.{key_cmp}
+use Rattle.gaz_records.proofs.KeyOrder.{keys_same}
 use Rattle.gaz_ledger.proofs.KeySets.{gone, stays, taken}
 use Rattle.gaz_ledger.specs.Indexes.{has_key, listed}
 use Rattle.gaz_ledger.specs.declared.keys.Keys.{Keys}
@@ -16,4 +17,4 @@ returns-else-is_eq c =
 
 pub returns-in-Many : goal.returns-in-Many
 returns-in-Many c =
-    λ k. taken c.in-Many.keys.keys c.remove.new.self.keys c.args.key.now c.remove.ensures.updates.0 k ∙ ap (λ (ks : Keys). not (eq_by_cmp key_cmp c.args.key.now k) && has_key (listed ks) k) (sym c.in-Many.is)
+    λ k. taken keys_same c.in-Many.keys.keys c.remove.new.self.keys c.args.key.now c.remove.ensures.updates.0 k ∙ ap (λ (ks : Keys). not (eq_by_cmp key_cmp c.args.key.now k) && has_key (listed ks) k) (sym c.in-Many.is)

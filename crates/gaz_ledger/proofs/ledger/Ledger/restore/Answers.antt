@@ -3,7 +3,7 @@ use Rattle.gaz_records.specs.Keys.{key_of}
 use Rattle.gaz_records.specs.declared.key.Key.{Key}
 use Rattle.gaz_ledger.proofs.Ledgers.{reached_of}
 use Rattle.gaz_ledger.proofs.Lives.{account_lived, ledger_kept, ledger_lived}
-use Rattle.gaz_ledger.proofs.Tied.{ties_none}
+use Rattle.gaz_ledger.proofs.TieFacts.{ties_none}
 use Rattle.gaz_ledger.specs.Ledgers.{Finds}
 use Rattle.gaz_ledger.specs.Lives.{IsLifeWithin, LivesAt}
 use Rattle.gaz_ledger.proofs.ledger.Ledger.restore.Goals as goal

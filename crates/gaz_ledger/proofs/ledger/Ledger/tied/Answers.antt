@@ -2,7 +2,7 @@ use Rattle.std.proofs.Common.{rules, ◌≡◌, ◌≤◌, ◌+◌, ◌∙◌, �
 use Rattle.gaz_views.specs.View.{View}
 use Rattle.gaz_views.specs.Words.{tied}
 use Rattle.gaz_ledger.proofs.Ledgers.{reached_of, seen}
-use Rattle.gaz_ledger.proofs.Tied.{ties_from}
+use Rattle.gaz_ledger.proofs.TieFacts.{ties_from}
 use Rattle.gaz_ledger.specs.Ties.{AreTies}
 use Rattle.gaz_ledger.proofs.ledger.Ledger.tied.Goals as goal
 

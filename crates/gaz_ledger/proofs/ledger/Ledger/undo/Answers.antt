@@ -1,7 +1,7 @@
 use Rattle.std.proofs.Common.{rules, ◌≡◌, ◌+◌, ℕ, length, subst, sym}
 use Rattle.gaz_ledger.proofs.Closings.{account_undone}
 use Rattle.gaz_ledger.proofs.Ledgers.{ledger_found}
-use Rattle.gaz_ledger.proofs.Tied.{ties_shed, ties_undone}
+use Rattle.gaz_ledger.proofs.TieFacts.{ties_shed, ties_undone}
 use Rattle.gaz_ledger.specs.Custodies.{IsPassing}
 use Rattle.gaz_ledger.specs.Ledgers.{IsLedger}
 use Rattle.gaz_ledger.specs.Ties.{AreTies}

@@ -1,5 +1,5 @@
 use Rattle.gaz_views.proofs.Outcomes.{on_ok}
-use Rattle.gaz_ledger.proofs.Tied.{more_tied, now_tied}
+use Rattle.gaz_ledger.proofs.TieFacts.{more_tied, now_tied}
 use Rattle.gaz_ledger.proofs.tied_keys.TiedKeys.add_some.Goals as goal
 
 pub returns-in-Some-clause-kept : goal.returns-in-Some-clause-kept

@@ -1,7 +1,7 @@
 use Rattle.std.proofs.Common.{◌∙◌, ap, List}
 use Rattle.std.specs.List.{list_any}
 use Rattle.gaz_records.specs.declared.key.Key.{Key}
-use Rattle.gaz_ledger.proofs.Tied.{any_tied}
+use Rattle.gaz_ledger.proofs.TieFacts.{any_tied}
 use Rattle.gaz_ledger.specs.Ties.{names_at}
 use Rattle.gaz_ledger.proofs.ties.Ties.has.Goals as goal
 

@@ -1,0 +1,5 @@
+pub mod Bytes
+pub mod HeadFacts
+pub mod HeaderFacts
+pub mod SparingFacts
+pub mod StreamFacts

@@ -1,0 +1,10 @@
+pub mod Heads
+pub mod Headers
+pub mod Failing
+pub mod Sparing
+pub mod Supplies
+pub mod Next
+pub mod Bodies
+pub mod Writing
+pub mod WorkedClosings
+pub mod WorkedReads
