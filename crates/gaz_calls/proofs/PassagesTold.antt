@@ -18,8 +18,8 @@ use Rattle.sqlite_rules.specs.Lists.{Has}
 use Rattle.sqlite_rules.proofs.ListLemmas.{has_filtered, has_kept}
 use Rattle.sqlite_rules.proofs.ProbeLemmas.{mapped_has}
 use Rattle.sqlite_value.proofs.OrderLemmas.{value_cmp-Int, value_cmp-Text, value_cmp_total}
+use Rattle.gaz_fields.specs.Labels.{label_cmp}
 use Rattle.gaz_records.specs.Keys.{kind_number, text_in as text_of}
-use Rattle.gaz_records.specs.Labels.{label_cmp}
 use Rattle.gaz_records.specs.declared.item.Kind.TheVariants as kind
 use Rattle.gaz_records.specs.declared.key.Key.TheVariants as key
 use Rattle.gaz_cells.proofs.Ids.{ids_apart, ids_back}
@@ -43,13 +43,13 @@ use Rattle.gaz_kept.proofs.Reached.{reached_room}
 use Rattle.gaz_kept.proofs.RowsRead.{read_from, read_in, some_same, tells_of}
 use Rattle.gaz_loaded.specs.Passing.{AreToldBehind, AreToldInTurn, ComesBehind, IsNext, passage_of}
 use Rattle.gaz_loaded.specs.declared.listed.Passage.{Passage}
-use Rattle.gaz_calls.specs.Passages.{IsStartOf, SayPassages, SaysPassage}
+use Rattle.gaz_answers.specs.Passages.{IsStartOf, SayPassages, SaysPassage}
 use Rattle.gaz_calls.specs.Passing.{is_any, passages_of}
-use Rattle.gaz_calls.proofs.Fits.{pos_same}
-use Rattle.gaz_calls.proofs.Holding.{by_ids, like_kinds}
-use Rattle.gaz_calls.proofs.Taken.{empty_is}
-use Rattle.gaz_calls.proofs.PageRows.{all_behind}
-use Rattle.gaz_calls.proofs.Taken.{none_taken}
+use Rattle.gaz_answers.proofs.Fits.{pos_same}
+use Rattle.gaz_answers.proofs.Holding.{by_ids, like_kinds}
+use Rattle.gaz_answers.proofs.Taken.{empty_is}
+use Rattle.gaz_answers.proofs.PageRows.{all_behind}
+use Rattle.gaz_answers.proofs.Taken.{none_taken}
 
 -- it comes behind what was told, or is that
 abbrev IsFrom : Option Passage → PassageRow → Type 0

@@ -1,16 +1,9 @@
-pub mod Answers
 pub mod Remembered
 pub mod Seen
 pub mod Passing
-pub mod Passages
 pub mod Asking
-pub mod Paging
-pub mod Streets
 pub mod Altering
 pub mod Writing
-pub mod Lives
-pub mod Volumes
-pub mod WorkedLives
 pub mod WorkedPassing
 pub mod Growing
 pub mod WorkedGrowing

@@ -11,8 +11,8 @@ ghost use Rattle.gaz_kept.specs.Versions.{view_in};
 ghost use Rattle.gaz_calls.specs.Asking.{AsksTables};
 ghost use Rattle.gaz_calls.specs.Passing.{TellsPassed};
 
-use crate::keys::capped;
 use crate::tables::Tables;
+use gaz_answers::volumes::capped;
 use gaz_ids::{Code, Uprn};
 use gaz_keeper::ShelfFault;
 use gaz_kept::decoding::name_of;

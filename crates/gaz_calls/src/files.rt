@@ -1,22 +1,21 @@
 //! What is read of received files.
-ghost use Rattle.std.specs.Prelude.{◌≡◌, IfOk, option_map};
+ghost use Rattle.std.specs.Prelude.{◌≡◌, option_map};
 ghost use Rattle.std.specs.FinMap as map;
 ghost use Rattle.gaz_keeper.specs.Board.{verdict_on};
 ghost use Rattle.gaz_tables.specs.Receiveds.{FindsFile, FindsVerdict};
 ghost use Rattle.gaz_tables.specs.Schema.{received};
 ghost use Rattle.gaz_tables.specs.Tables.{rows_of};
-ghost use Rattle.gaz_calls.specs.Answers.{SaysBytes, SaysVerdict};
 ghost use Rattle.gaz_calls.specs.Asking.{AsksTables};
 ghost use Rattle.gaz_kept.specs.Contents.{board_of};
-ghost use Rattle.gaz_kept.specs.Files.{files_in, verdict_of};
+ghost use Rattle.gaz_kept.specs.Files.{files_in};
 
 use crate::tables::Tables;
+use gaz_answers::files::{first_bytes, verdict_said};
 use gaz_ids::{Code, Volume};
 use gaz_keeper::ShelfFault;
-use gaz_kept::decoding::{RowFault, number};
 use gaz_tables::receiveds;
 use gaz_views::Verdict;
-use sqlite::{Alter, Error, Row};
+use sqlite::{Alter, Row};
 
 impl<S: Alter> Tables<S> {
     /// The state of a volume with its place and rule, where it was received.
@@ -45,7 +44,7 @@ impl<S: Alter> Tables<S> {
             (λ db v. v ≡ verdict_on (board_of db) code volume) }
     {
         let rows = self.verdict_rows(code, volume)?;
-        match said(&rows) {
+        match verdict_said(&rows) {
             Ok(verdict) => Ok(verdict),
             Err(fault) => Err(self.row_fault(fault)),
         }
@@ -74,47 +73,5 @@ impl<S: Alter> Tables<S> {
             Ok(bytes) => Ok(bytes),
             Err(error) => Err(self.fault(error)),
         }
-    }
-}
-
-// The verdict of a state with its place and rule.
-fn verdict_of(state: u64, place: u64, rule: u64) -> Result<Option<Verdict>, RowFault>
-    ensures { IfOk result (λ v. v ≡ verdict_of state place rule) }
-{
-    if state == 0 {
-        return Ok(None);
-    }
-    if state == 1 {
-        return Ok(Some(Verdict::Applied));
-    }
-    if state != 2 || rule > 255 {
-        return Err(RowFault::Wrong);
-    }
-    Ok(Some(Verdict::Rejected {
-        place,
-        rule: rule as u8,
-    }))
-}
-
-// What the first row says, of state, place and rule.
-fn said(rows: &[Row]) -> Result<Option<Verdict>, RowFault>
-    ensures { IfOk result (SaysVerdict rows.now) }
-{
-    let Some(row) = rows.first() else {
-        return Ok(None);
-    };
-    let state = number(row, 0)?;
-    let place = number(row, 1)?;
-    let rule = number(row, 2)?;
-    verdict_of(state, place, rule)
-}
-
-// The bytes of the first row, where there is one.
-fn first_bytes(rows: &[Row]) -> Result<Option<Vec<u8>>, Error>
-    ensures { IfOk result (SaysBytes rows.now) }
-{
-    match rows.first() {
-        Some(row) => Ok(Some(row.get::<Vec<u8>>(0)?)),
-        None => Ok(None),
     }
 }

@@ -15,7 +15,8 @@ ghost use Rattle.gaz_kept.specs.Versions.{histories_in, view_in};
 ghost use Rattle.gaz_calls.specs.Passing.{any_passed, was_passed};
 
 use crate::tables::Tables;
-use gaz_ids::{Code, LAST_VOLUME};
+use gaz_answers::volumes::capped;
+use gaz_ids::Code;
 use gaz_keeper::ShelfFault;
 use gaz_kept::decoding::{kind_in, name_of};
 use gaz_kept::newest::{Life, current_in, item_after, newest_said, stood_by, stood_said};
@@ -192,11 +193,4 @@ impl<S: Alter> Tables<S> {
         let life = self.newest_until(code, capped(volume), key)?;
         Ok(item_after(volume, life))
     }
-}
-
-// The volume, or the last that a custodian can send: none behind it is reached.
-pub(crate) fn capped(volume: u64) -> u32
-    ensures { volume ≤ LAST_VOLUME → result ≡ volume }
-{
-    volume.min(LAST_VOLUME) as u32
 }

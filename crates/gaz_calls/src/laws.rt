@@ -1,12 +1,6 @@
 //! What a reader of the definitions may rely on.
 ghost use Rattle.gaz_calls.specs.WorkedGrowing.{WorkedGrowing};
-ghost use Rattle.gaz_calls.specs.WorkedLives.{WorkedTelling};
 ghost use Rattle.gaz_calls.specs.WorkedPassing.{WorkedPassing};
-
-/// What is told of a table's rows in turn, on worked examples.
-pub fn worked_telling()
-    ensures { WorkedTelling }
-{}
 
 /// What is told where a store's register grows, on worked examples.
 pub fn worked_growing()

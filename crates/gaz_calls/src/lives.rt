@@ -5,10 +5,11 @@ ghost use Rattle.gaz_tables.specs.Rowids.{FindsBehind, FindsFirst, FindsInTurn};
 ghost use Rattle.gaz_tables.specs.Schema.{version2};
 ghost use Rattle.gaz_tables.specs.Tables.{rows_of};
 ghost use Rattle.gaz_calls.specs.Asking.{AsksTables};
-ghost use Rattle.gaz_calls.specs.Lives.{AreEntries, IsRowBehind, TellsLives, TellsPage};
+ghost use Rattle.gaz_answers.specs.Lives.{AreEntries, IsRowBehind, TellsLives, TellsPage};
 
-use crate::life_rows::{LifePage, page_told};
-use crate::tables::{MOST, Tables};
+use crate::tables::Tables;
+use gaz_answers::life_rows::{LifePage, page_told};
+use gaz_answers::sizes::MOST;
 use gaz_keeper::ShelfFault;
 use gaz_loaded::Life;
 use gaz_tables::rowids;
@@ -64,8 +65,8 @@ impl<S: Alter> Tables<S> {
     }
 
     /// What the rows of items behind a rowid say, or those from the first, by rising rowids: at
-    /// most `MOST`. Rows of what became of numbers are passed over, also where there is nothing else
-    /// on a page.
+    /// most `MOST`. Rows of what became of numbers are passed over, also where there is nothing
+    /// else on a page.
     pub fn lives_behind(&mut self, after: Option<i64>) -> Result<Vec<Life>, ShelfFault>
         ensures asks { AsksTables self.old self.new result
             (λ db lives. TellsLives after lives.items (rows_of db version2)) }

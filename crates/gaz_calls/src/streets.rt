@@ -8,10 +8,11 @@ ghost use Rattle.gaz_records.specs.Kinds.{is_entry_kind, number_of};
 ghost use Rattle.gaz_views.specs.Words.{approved_on, entries, has_children, tied};
 ghost use Rattle.gaz_kept.specs.LastViews.{last_in};
 ghost use Rattle.gaz_calls.specs.Asking.{AsksTables};
-ghost use Rattle.gaz_calls.specs.Streets.{IsStep, is_left_on, is_left_part, is_left_tied};
+ghost use Rattle.gaz_answers.specs.Streets.{IsStep, is_left_on, is_left_part, is_left_tied};
 
-use crate::steps::{Step, parts_told, street_told};
-use crate::tables::{MOST, Tables};
+use crate::tables::Tables;
+use gaz_answers::sizes::MOST;
+use gaz_answers::steps::{Step, parts_told, street_told};
 use gaz_ids::{Code, Lang, Uprn, Usrn};
 use gaz_keeper::ShelfFault;
 use gaz_overlay::Overlay;

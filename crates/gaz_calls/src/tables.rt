@@ -11,9 +11,6 @@ use sqlite::{Alter, Connection};
 use std::alloc::Global;
 use std::collections::BTreeMap;
 
-/// The most rows of one answer.
-pub(crate) const MOST: u32 = 512;
-
 /// The connection of a store, outside a transaction between calls; whether it answered last, so
 /// that it is known to be open; how often the store failed; and what is at hand of each custodian
 /// that was asked for.

@@ -5,6 +5,9 @@ use Rattle.std.proofs.lemmas.Bool.Decides.{nat_tests}
 use Rattle.std.proofs.lemmas.Slice.Eq.{bytes_eq-Decides}
 use Rattle.std.specs.List.{AllByRecursion, find}
 use Rattle.std.specs.Str.{bytes_eq}
+use Rattle.gaz_fields.specs.Fields.{OrMemory}
+use Rattle.gaz_fields.specs.declared.fields.FieldFault.{FieldFault}
+use Rattle.gaz_fields.proofs.Both.{and-left}
 use Rattle.gaz_records.specs.Streets.{read_street}
 use Rattle.gaz_records.specs.Descriptors.{read_descriptor}
 use Rattle.gaz_records.specs.Blpus.{read_blpu}
@@ -12,12 +15,9 @@ use Rattle.gaz_records.specs.Xrefs.{read_xref}
 use Rattle.gaz_records.specs.Lpis.{read_lpi}
 use Rattle.gaz_records.specs.Releases.{read_release}
 use Rattle.gaz_records.specs.Adopts.{read_adopt}
-use Rattle.gaz_records.proofs.Both.{and-left}
 use Rattle.gaz_records.specs.Items.{ItemsReadBack, is_entry, is_item, item_of_row, item_of_text, item_text, kind_of, map_ok, read_item}
 use Rattle.gaz_records.specs.Keys.{key_of}
 use Rattle.gaz_records.specs.Kinds.{is_entry_kind, number_of}
-use Rattle.gaz_records.specs.Fields.{OrMemory}
-use Rattle.gaz_records.specs.declared.fields.FieldFault.{FieldFault}
 use Rattle.gaz_records.specs.declared.item.Item.{Item}
 use Rattle.gaz_records.specs.declared.item.Item.TheVariants as item
 use Rattle.gaz_records.specs.declared.item.Kind.{Kind}

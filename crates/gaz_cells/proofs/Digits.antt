@@ -9,7 +9,7 @@ use Rattle.std.specs.Str.{all_ascii_digits}
 use Rattle.std.specs.Str.Parse.{digits_value}
 use Rattle.gaz_ids.proofs.Numerals.{digit_is}
 use Rattle.gaz_ids.specs.Numbers.{read_id}
-use Rattle.gaz_records.proofs.Both.{and-left, and-right}
+use Rattle.gaz_fields.proofs.Both.{and-left, and-right}
 use Rattle.gaz_cells.specs.Digits.{digits_in}
 
 -- ---- as they are written

@@ -6,7 +6,7 @@ use Rattle.std.specs.Cmp.Lexicographic.{slice_cmp}
 use Rattle.std.specs.Ordering.{nat_cmp, ordering_then}
 use Rattle.std.specs.declared.cmp.Ordering.{Ordering}
 use Rattle.std.specs.declared.cmp.Ordering.TheVariants.{Less, Equal, Greater}
-use Rattle.gaz_records.proofs.LabelOrder.{ahead, behind, greater, less}
+use Rattle.gaz_fields.proofs.LabelOrder.{ahead, behind, greater, less}
 use Rattle.gaz_cells.specs.Digits.{digits_in}
 use Rattle.gaz_cells.proofs.Digits.{digits_size, shorter}
 

@@ -6,8 +6,8 @@ use Rattle.gaz_ids.specs.Codes.{lang_of, lang_text}
 use Rattle.gaz_ids.specs.Limits.{last_uprn, last_usrn}
 use Rattle.gaz_ids.specs.Numbers.{read_id}
 use Rattle.gaz_ids.specs.declared.lang.Lang.{Lang}
+use Rattle.gaz_fields.specs.Labels.{is_label, label_of}
 use Rattle.gaz_records.specs.Blpus.{is_uprn}
-use Rattle.gaz_records.specs.Labels.{is_label, label_of}
 use Rattle.gaz_records.specs.Streets.{is_usrn}
 use Rattle.gaz_records.specs.declared.item.Kind.{Kind}
 use Rattle.gaz_records.specs.declared.item.Kind.TheVariants as kind

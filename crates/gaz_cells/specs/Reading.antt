@@ -3,10 +3,10 @@ use Rattle.std.specs.Prelude.{◌≡◌, ◌⊎◌, ℕ, ◌==◌, List, Option,
 use Rattle.std.specs.Prelude.{filter, if◌then◌else◌}
 use Rattle.std.specs.List.{find}
 use Rattle.std.specs.Str.{bytes_eq}
+use Rattle.gaz_fields.specs.declared.fields.FieldFault.{FieldFault}
 use Rattle.gaz_records.specs.Items.{item_of_text, item_text}
 use Rattle.gaz_records.specs.Keys.{key_of}
 use Rattle.gaz_records.specs.Kinds.{is_entry_kind, kinds, number_of}
-use Rattle.gaz_records.specs.declared.fields.FieldFault.{FieldFault}
 use Rattle.gaz_records.specs.declared.item.Item.{Item}
 use Rattle.gaz_records.specs.declared.item.Kind.{Kind}
 use Rattle.gaz_cells.specs.Ids.{id_of}

@@ -1,6 +1,6 @@
 //! The bodies of a page of rows, read one after another.
 ghost use Rattle.std.specs.Prelude.{◌≡◌, true, IfSome};
-ghost use Rattle.gaz_records.specs.Fields.{OrMemory as OrMemoryOf};
+ghost use Rattle.gaz_fields.specs.Fields.{OrMemory as OrMemoryOf};
 ghost use Rattle.gaz_records.specs.Items.{item_of_text, item_text, kind_of};
 ghost use Rattle.gaz_cells.specs.Reading.{OrMemory, read_cells};
 

@@ -10,7 +10,7 @@ use Rattle.gaz_ids.specs.Limits.{last_volume}
 use Rattle.gaz_rows.specs.Rows.{AllFilled, AreTextRows, AreTexts, Fields, lines_of, rows_of}
 use Rattle.gaz_rows.proofs.Back.{rows-read-back}
 use Rattle.gaz_rows.proofs.Utf8.{decimal-utf8, lines-utf8, rows-append}
-use Rattle.gaz_records.specs.Days.{CivilDay}
+use Rattle.gaz_fields.specs.Days.{CivilDay}
 use Rattle.gaz_records.specs.Items.{is_entry, is_item, kind_of}
 use Rattle.gaz_records.specs.declared.item.Kind.{Kind}
 use Rattle.gaz_records.specs.declared.item.Kind.TheVariants as kind

@@ -5,9 +5,9 @@ use Rattle.std.specs.List.{All, enumerate_from, filter_map, list_any, range_with
 use Rattle.std.proofs.lemmas.List.{append-nil}
 use Rattle.csv.specs.Records.{field_at}
 use Rattle.gaz_rows.specs.Rows.{Fields}
-use Rattle.gaz_records.specs.Days.{is_day}
+use Rattle.gaz_fields.specs.Days.{is_day}
+use Rattle.gaz_fields.proofs.DatesBack.{date-back}
 use Rattle.gaz_records.specs.Items.{is_entry, is_item}
-use Rattle.gaz_records.proofs.Dates.{date-back}
 use Rattle.gaz_changefile.specs.Allowed.{AreAllowed}
 use Rattle.gaz_changefile.specs.Contents.{Contents, bases_in, basis_at, change_at, changes_in, contents_of, date_in}
 use Rattle.gaz_changefile.specs.Files.{ArePlaced, IsBasis, IsTyped}

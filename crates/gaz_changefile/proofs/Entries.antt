@@ -6,6 +6,7 @@ use Rattle.std.specs.Str.{bytes_eq}
 use Rattle.std.proofs.lemmas.Bool.{cases_Bool}
 use Rattle.std.proofs.lemmas.Bool.Decides.{nat_tests}
 use Rattle.gaz_rows.specs.Rows.{Fields}
+use Rattle.gaz_fields.specs.declared.fields.FieldFault.{FieldFault}
 use Rattle.gaz_records.specs.Adopts.{read_adopt}
 use Rattle.gaz_records.specs.Blpus.{read_blpu}
 use Rattle.gaz_records.specs.Descriptors.{read_descriptor}
@@ -15,7 +16,6 @@ use Rattle.gaz_records.specs.Lpis.{read_lpi}
 use Rattle.gaz_records.specs.Releases.{read_release}
 use Rattle.gaz_records.specs.Streets.{read_street}
 use Rattle.gaz_records.specs.Xrefs.{read_xref}
-use Rattle.gaz_records.specs.declared.fields.FieldFault.{FieldFault}
 use Rattle.gaz_records.specs.declared.item.Item.{Item}
 use Rattle.gaz_records.specs.declared.item.Item.TheVariants as item
 use Rattle.gaz_records.specs.declared.item.Kind.{Kind}

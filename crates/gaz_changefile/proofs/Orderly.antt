@@ -11,9 +11,9 @@ use Rattle.std.proofs.lemmas.List.Elements.{All-append}
 use Rattle.std.proofs.lemmas.Slice.Eq.{bytes_eq-Decides}
 use Rattle.gaz_ids.specs.Numbers.{read_code, read_volume}
 use Rattle.gaz_rows.specs.Rows.{Fields, rows_of}
-use Rattle.gaz_records.proofs.Both.{and-left}
+use Rattle.gaz_fields.specs.declared.fields.FieldFault.{FieldFault}
+use Rattle.gaz_fields.proofs.Both.{and-left}
 use Rattle.gaz_records.specs.Items.{read_item}
-use Rattle.gaz_records.specs.declared.fields.FieldFault.{FieldFault}
 use Rattle.gaz_records.specs.declared.item.Item.{Item}
 use Rattle.gaz_records.specs.declared.item.Kind.{Kind}
 use Rattle.gaz_changefile.specs.Allowed.{AreAllowed, is_allowed}

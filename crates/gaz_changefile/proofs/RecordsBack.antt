@@ -8,7 +8,7 @@ use Rattle.gaz_ids.specs.Limits.{last_volume}
 use Rattle.gaz_ids.proofs.Numerals.{read_decimal}
 use Rattle.gaz_ids.specs.Numbers.{read_code, read_volume}
 use Rattle.gaz_rows.specs.Rows.{Fields}
-use Rattle.gaz_records.specs.Days.{CivilDay}
+use Rattle.gaz_fields.specs.Days.{CivilDay}
 use Rattle.gaz_records.specs.Items.{is_entry, is_item, item_texts, kind_of, read_item}
 use Rattle.gaz_records.specs.declared.item.Item.{Item}
 use Rattle.gaz_records.specs.declared.item.Kind.{Kind}

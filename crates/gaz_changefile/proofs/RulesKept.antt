@@ -11,11 +11,11 @@ use Rattle.csv.specs.Records.{field_at}
 use Rattle.gaz_ids.specs.Limits.{last_volume}
 use Rattle.gaz_ids.specs.Numbers.{read_id}
 use Rattle.gaz_rows.specs.Rows.{Fields}
-use Rattle.gaz_records.specs.Days.{CivilDay, is_day}
+use Rattle.gaz_fields.specs.Days.{CivilDay, is_day}
+use Rattle.gaz_fields.proofs.DatesBack.{date-back}
 use Rattle.gaz_records.specs.Items.{is_entry, is_item, item_texts, kind_of, read_item}
 use Rattle.gaz_records.specs.declared.item.Item.{Item}
 use Rattle.gaz_records.specs.declared.item.Kind.{Kind}
-use Rattle.gaz_records.proofs.Dates.{date-back}
 use Rattle.gaz_records.proofs.ItemsBack.{fields-back}
 use Rattle.gaz_records.specs.Kinds.{identifier}
 use Rattle.gaz_changefile.specs.Allowed.{AreAllowed, may_name, named_in}

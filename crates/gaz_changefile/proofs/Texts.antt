@@ -18,12 +18,13 @@ use Rattle.gaz_addressable.specs.HouseNumbers.{HouseNumberValue, RangeValue, is_
 use Rattle.gaz_addressable.specs.Objects.{ObjectValue, digits_text, from_of, is_object, is_range_or_none, is_text_or_none, is_there, letter_text, texts_of, to_of}
 use Rattle.gaz_addressable.specs.Texts.{char_count, is_plain, is_text}
 use Rattle.gaz_addressable.proofs.Characters.{plain_utf8}
+use Rattle.gaz_fields.specs.Days.{CivilDay, is_day_or_none, date_text, end_text, is_day, two}
+use Rattle.gaz_fields.specs.Labels.{are_label_bytes, is_label, is_label_byte}
+use Rattle.gaz_fields.proofs.Both.{and-left, and-right}
 use Rattle.gaz_records.specs.Adopts.{adopt_texts, is_adopt}
 use Rattle.gaz_records.specs.Blpus.{BlpuValue, blpu_texts, is_blpu, is_parent, parent_text}
-use Rattle.gaz_records.specs.Days.{CivilDay, is_day_or_none, date_text, end_text, is_day, two}
 use Rattle.gaz_records.specs.Descriptors.{DescriptorValue, descriptor_texts, is_descriptor}
 use Rattle.gaz_records.specs.Items.{is_item, item_texts}
-use Rattle.gaz_records.specs.Labels.{are_label_bytes, is_label, is_label_byte}
 use Rattle.gaz_records.specs.Lpis.{LpiValue, is_lpi, is_secondary, lpi_texts, secondary_texts}
 use Rattle.gaz_records.specs.Releases.{is_release, release_texts}
 use Rattle.gaz_records.specs.Streets.{StreetValue, is_street, street_texts}
@@ -32,7 +33,6 @@ use Rattle.gaz_records.specs.declared.adopt.Adopt.{Adopt}
 use Rattle.gaz_records.specs.declared.item.Item.{Item}
 use Rattle.gaz_records.specs.declared.item.Item.TheVariants as item
 use Rattle.gaz_records.specs.declared.release.Release.{Release}
-use Rattle.gaz_records.proofs.Both.{and-left, and-right}
 
 -- ---- what stands in the fields
 

@@ -6,13 +6,13 @@ use Rattle.std.proofs.lemmas.Bool.Decides.{nat_tests}
 use Rattle.std.proofs.lemmas.List.Elements.{All-cons, All-nil}
 use Rattle.gaz_ids.specs.Numbers.{read_code, read_volume}
 use Rattle.gaz_rows.specs.Rows.{Fields, rows_of}
-use Rattle.gaz_records.specs.Days.{date_of, is_day}
+use Rattle.gaz_fields.specs.Days.{date_of, is_day}
+use Rattle.gaz_fields.specs.declared.fields.FieldFault.{FieldFault}
+use Rattle.gaz_fields.proofs.Both.{and-right}
+use Rattle.gaz_fields.proofs.ReadFields.{date-known, id-fits}
 use Rattle.gaz_records.specs.Items.{is_item, read_item}
-use Rattle.gaz_records.specs.declared.fields.FieldFault.{FieldFault}
 use Rattle.gaz_records.specs.declared.item.Item.{Item}
 use Rattle.gaz_records.specs.declared.item.Kind.{Kind}
-use Rattle.gaz_records.proofs.Both.{and-right}
-use Rattle.gaz_records.proofs.ReadFields.{date-known, id-fits}
 use Rattle.gaz_records.proofs.ReadItems.{reads_items}
 use Rattle.gaz_changefile.specs.Contents.{basis_at, basis_from, basis_of, bases_in, change_at, change_from, change_of, changes_in, contents_of, date_in}
 use Rattle.gaz_changefile.specs.Files.{IsBasis, IsTyped}

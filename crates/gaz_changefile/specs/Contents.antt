@@ -5,9 +5,9 @@ use Rattle.std.specs.Option.{unwrap_or}
 use Rattle.std.specs.List.{enumerate_from, filter_map}
 use Rattle.gaz_ids.specs.Numbers.{read_code, read_volume}
 use Rattle.gaz_rows.specs.Rows.{Fields}
-use Rattle.gaz_records.specs.Days.{CivilDay, date_of, no_day}
+use Rattle.gaz_fields.specs.Days.{CivilDay, date_of, no_day}
+use Rattle.gaz_fields.specs.declared.fields.FieldFault.{FieldFault}
 use Rattle.gaz_records.specs.Items.{read_item}
-use Rattle.gaz_records.specs.declared.fields.FieldFault.{FieldFault}
 use Rattle.gaz_records.specs.declared.item.Item.{Item}
 use Rattle.gaz_records.specs.declared.item.Kind.{Kind}
 use Rattle.gaz_changefile.specs.Lines.{action_of, field, line_of, profile_named}

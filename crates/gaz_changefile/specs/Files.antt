@@ -3,7 +3,7 @@ use Rattle.std.specs.Prelude.{◌≡◌, ◌≢◌, ◌≤◌, ℕ, ◌+◌, Lis
 use Rattle.std.specs.List.{All, range_with_len}
 use Rattle.std.specs.List.Sorted.{IsStrictlyIncreasing}
 use Rattle.gaz_ids.specs.Limits.{last_code, last_volume, most_bases, most_changes}
-use Rattle.gaz_records.specs.Days.{is_day}
+use Rattle.gaz_fields.specs.Days.{is_day}
 use Rattle.gaz_records.specs.Items.{is_item}
 use Rattle.gaz_changefile.specs.Contents.{Contents}
 use Rattle.gaz_changefile.specs.declared.change.Basis.{Basis}

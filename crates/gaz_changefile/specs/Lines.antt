@@ -7,7 +7,7 @@ use Rattle.std.specs.Str.{bytes_eq}
 use Rattle.gaz_ids.specs.Limits.{most_changes}
 use Rattle.gaz_ids.specs.Numbers.{read_id}
 use Rattle.gaz_rows.specs.Rows.{Fields}
-use Rattle.gaz_records.specs.Fields as Records
+use Rattle.gaz_fields.specs.Fields as Records
 use Rattle.gaz_records.specs.Kinds.{identified, is_entry_kind}
 use Rattle.gaz_records.specs.declared.item.Kind.{Kind}
 use Rattle.gaz_changefile.specs.declared.action.Action.{Action}

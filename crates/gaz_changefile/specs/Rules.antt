@@ -9,10 +9,10 @@ use Rattle.std.specs.Str.{bytes_eq}
 use Rattle.gaz_ids.specs.Limits.{most_bases, most_changes}
 use Rattle.gaz_ids.specs.Numbers.{read_code, read_volume}
 use Rattle.gaz_rows.specs.Rows.{Fields}
-use Rattle.gaz_records.specs.Days.{date_of}
+use Rattle.gaz_fields.specs.Days.{date_of}
+use Rattle.gaz_fields.specs.declared.fields.FieldFault.{FieldFault}
+use Rattle.gaz_fields.specs.declared.fields.FieldFault.TheVariants as fieldfault
 use Rattle.gaz_records.specs.Items.{read_item}
-use Rattle.gaz_records.specs.declared.fields.FieldFault.{FieldFault}
-use Rattle.gaz_records.specs.declared.fields.FieldFault.TheVariants as fieldfault
 use Rattle.gaz_records.specs.declared.item.Item.{Item}
 use Rattle.gaz_records.specs.declared.item.Kind.{Kind}
 use Rattle.gaz_changefile.specs.Allowed.{may_name, named_in}

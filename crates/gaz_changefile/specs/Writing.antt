@@ -3,7 +3,7 @@ use Rattle.std.specs.Prelude.{◌≡◌, ℕ, not, List, [], ◌∷◌, ◌++◌
 use Rattle.std.specs.Prelude.{if◌then◌else◌}
 use Rattle.std.specs.List.{enumerate_from, list_any}
 use Rattle.gaz_rows.specs.Rows.{Fields, line_of, lines_of}
-use Rattle.gaz_records.specs.Days.{CivilDay, date_text}
+use Rattle.gaz_fields.specs.Days.{CivilDay, date_text}
 use Rattle.gaz_records.specs.Items.{is_entry, item_texts, kind_of}
 use Rattle.gaz_records.specs.Kinds.{identifier}
 use Rattle.gaz_changefile.specs.Contents.{Contents}

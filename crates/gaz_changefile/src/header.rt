@@ -1,6 +1,6 @@
 ghost use Rattle.std.specs.Prelude.{◌≡◌, IfErr, IfOk, OnOk, Some};
 ghost use Rattle.csv.specs.Records.{fields_of};
-ghost use Rattle.gaz_records.specs.Days.{date_of};
+ghost use Rattle.gaz_fields.specs.Days.{date_of};
 ghost use Rattle.gaz_changefile.specs.Lines.{field, line_of, read_profile};
 ghost use Rattle.gaz_changefile.specs.Rules.{header_rules};
 ghost use Rattle.gaz_changefile.specs.Steps.{IsFirstOf, KeepsAll};

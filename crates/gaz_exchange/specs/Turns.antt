@@ -93,7 +93,8 @@ abbrev pub TurnsAway : Door → ℕ → ℕ → List ℕ → Option (List ℕ) �
 TurnsAway door before after bytes left old new text =
     IsTurnedAway bytes left text × Rests door old new × OneForEach before after bytes (IsAtEnd left)
 
--- the request at the front of the bytes was answered by this text; no other may follow, or one may
+-- the request at the front of the bytes was answered by this text; `ends` says whether no other may
+-- follow
 abbrev pub AnswersOne : Door → Bool → Bool → ℕ → ℕ → List ℕ → List ℕ → Seen → Seen → List ℕ → Bool
     → Type 0
 AnswersOne door is_last routed before after bytes rest old new text ends =

@@ -6,11 +6,11 @@ use Rattle.std.specs.Ordering.{is_lt, nat_cmp, ordering_then}
 use Rattle.std.specs.declared.cmp.Ordering.{Ordering}
 use Rattle.std.specs.declared.cmp.Ordering.TheVariants.{Less, Equal, Greater}
 use Rattle.gaz_ids.specs.declared.lang.Lang.TheVariants.{Cym, Eng}
-use Rattle.gaz_records.proofs.LabelOrder.{ahead, rest_of_bytes, word_below}
+use Rattle.gaz_fields.specs.Labels.{padded, seven_bytes}
+use Rattle.gaz_fields.proofs.LabelOrder.{ahead, rest_of_bytes, word_below}
 use Rattle.gaz_records.proofs.SortOrder.{behind_short, bytes_of_label, sorts}
 use Rattle.gaz_records.specs.Keys.{key_cmp, kind_number, number_in}
-use Rattle.gaz_records.specs.Labels.{padded}
-use Rattle.gaz_records.specs.SortKeys.{behind_kind, has_label, high_of, low_of, seven_bytes}
+use Rattle.gaz_records.specs.SortKeys.{behind_kind, has_label, high_of, low_of}
 use Rattle.gaz_records.specs.declared.key.Key.{Key}
 use Rattle.gaz_records.specs.declared.key.Key.TheVariants as key
 use Rattle.gaz_extract.specs.Paging.{pages_left, rank, ranks}

@@ -6,8 +6,8 @@ use Rattle.gaz_ids.specs.declared.status.Status.{Status}
 use Rattle.gaz_ids.specs.declared.status.Status.TheVariants.{Approved, Historical, Provisional}
 use Rattle.gaz_addressable.specs.HouseNumbers.{HouseNumberValue}
 use Rattle.gaz_addressable.specs.Objects.{ObjectValue}
+use Rattle.gaz_fields.specs.Days.{CivilDay}
 use Rattle.gaz_records.specs.Blpus.{BlpuValue}
-use Rattle.gaz_records.specs.Days.{CivilDay}
 use Rattle.gaz_records.specs.Descriptors.{DescriptorValue}
 use Rattle.gaz_records.specs.Lpis.{LpiValue}
 use Rattle.gaz_records.specs.declared.item.Item.{Item}

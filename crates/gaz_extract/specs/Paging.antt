@@ -1,6 +1,7 @@
 -- Pages whose keys rise, and how many keys may follow.
 use Rattle.std.specs.Prelude.{ℕ, suc, ◌+◌, ◌-◌, ◌*◌, Option, Some, None, if◌then◌else◌}
-use Rattle.gaz_records.specs.SortKeys.{high_of, low_of, seven_bytes}
+use Rattle.gaz_fields.specs.Labels.{seven_bytes}
+use Rattle.gaz_records.specs.SortKeys.{high_of, low_of}
 use Rattle.gaz_records.specs.declared.key.Key.{Key}
 use Rattle.gaz_views.specs.Words.{comes_after}
 

@@ -1,8 +1,9 @@
 //! Views page by page.
 ghost use Rattle.std.specs.Prelude.{◌≡◌, ◌<◌, ◌++◌, true, is_some, IfOk, Some};
+ghost use Rattle.gaz_fields.specs.Labels.{seven_bytes};
 ghost use Rattle.gaz_records.specs.Keys.{number_in};
 ghost use Rattle.gaz_records.specs.Kinds.{is_entry_kind};
-ghost use Rattle.gaz_records.specs.SortKeys.{has_label, seven_bytes};
+ghost use Rattle.gaz_records.specs.SortKeys.{has_label};
 ghost use Rattle.gaz_views.specs.Reading.{left_after, next_after};
 ghost use Rattle.gaz_views.specs.Words.{comes_after, rest_of};
 ghost use Rattle.gaz_extract.specs.Paging.{most_page, pages_left, rising};

@@ -10,16 +10,16 @@ use Rattle.gaz_rules.specs.Bases.{judged_on}
 use Rattle.gaz_keeper.specs.Board.{Board, empty_board, reached}
 use Rattle.gaz_keeper.specs.Keeper.{Seen}
 use Rattle.gaz_keeper.specs.Received.{Received}
-use Rattle.gaz_hub.specs.Growth.{AllReadOffGrown, EveryGrownRun, GrowthKeeps, GrowthStands, first_ever}
+use Rattle.gaz_hub.specs.Growth.{AllReadOffGrown, EveryGrownRun, GrowthKeeps, GrowthStands, PeriodsAreOneRun, asked_in, first_ever, said_in}
 use Rattle.gaz_hub.specs.Hubs.{AreKnown, door_of}
-use Rattle.gaz_hub.specs.Runs.{first_received}
+use Rattle.gaz_hub.specs.Runs.{Run, first_received}
 use Rattle.gaz_hub.specs.Standing.{IsPartial, Leads, judge_one, next_reading, ready, standing, with_next}
 use Rattle.gaz_hub.specs.Step.{HubState}
 use Rattle.gaz_hub.proofs.Answers.{every_answer_holds}
 use Rattle.gaz_hub.proofs.Finding.{run_known}
 use Rattle.gaz_hub.proofs.Leading.{standing_is_settled}
 use Rattle.gaz_hub.proofs.Orders.{any_order_holds, ready_gives}
-use Rattle.gaz_hub.proofs.Runs.{every_run_from_holds}
+use Rattle.gaz_hub.proofs.Runs.{every_run_from_holds, run_then}
 
 -- ---- one judgement after another
 
@@ -105,3 +105,13 @@ every_grown_run_holds register old new (period ∷ periods) known partial r =
       partial = later.partial;
       answers = (answered.read_off, subst (λ files. AllReadOffGrown files periods) answered.received later.answers);
     }
+
+-- ---- periods under one register
+
+pub periods_are_one_run_holds : PeriodsAreOneRun
+periods_are_one_run_holds register before old new [] under e = e
+periods_are_one_run_holds register before old new (period ∷ periods) under r =
+    let here : Run (door_of register) old period.commands period.responses r.0 =
+    subst (λ x. Run (door_of x) old period.commands period.responses r.0) under.0 r.2 in
+    run_then (door_of register) old r.0 new period.commands (asked_in periods) period.responses (said_in periods) here
+    (periods_are_one_run_holds register period.register r.0 new periods under.1 r.3)

@@ -10,8 +10,8 @@ use Rattle.gaz_changefile.specs.Contents.{contents_of}
 use Rattle.gaz_changefile.specs.Reading.{reading}
 use Rattle.gaz_changefile.specs.Rules.{basis_rules, change_rules, header_rules, later_rules, rules_at, trailer_rules}
 use Rattle.gaz_ids.specs.Numbers.{read_id}
-use Rattle.gaz_records.specs.Days.{date_of}
-use Rattle.gaz_records.specs.Forms.{says}
+use Rattle.gaz_fields.specs.Days.{date_of}
+use Rattle.gaz_fields.specs.Forms.{says}
 use Rattle.gaz_records.specs.Streets.{read_street}
 use Rattle.gaz_rules.proofs.Worked.{views}
 use Rattle.gaz_rules.specs.Examples.{file_of, insertion}

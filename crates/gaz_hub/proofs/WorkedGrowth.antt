@@ -1,5 +1,5 @@
 -- The worked examples on a register that grows.
-use Rattle.std.proofs.Common.{◌≡◌, [], refl, sym, ap, ◌∙◌, true≢false}
+use Rattle.std.proofs.Common.{◌≡◌, [], length, refl, sym, ap, ◌∙◌, true≢false}
 use Rattle.std.specs.Prelude.{None, Some}
 use Rattle.std.specs.FinMap as map
 use Rattle.std.specs.Option.{option_or}
@@ -23,6 +23,10 @@ worked_growth_hold = record {
   first = first_is;
   nothing_else = refl;
   of_none = refl;
+  asked = refl;
+  said = refl;
+  under_two = λ under. let three : 3 ≡ 4 = ap length under.0 in cc;
+  under_one = (refl, tt);
   never_lost = λ e abides.
       let no : None ≡ Some [] = sym (map.get-empty pair_cmp (1004, 1)) ∙ abides.first (1004, 1) ∙ ap (λ o. option_or o (first_ever (1004, 1) sends_twice)) (map.get-empty pair_cmp (1004, 1)) ∙ first_is e in cc;
 }

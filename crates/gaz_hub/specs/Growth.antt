@@ -1,6 +1,6 @@
 -- A register that grows beneath a hub: what stays, and runs over registers of which each extends
 -- the one before.
-use Rattle.std.specs.Prelude.{◌≡◌, ⊤, ℕ, List, [], ◌∷◌, Option, None}
+use Rattle.std.specs.Prelude.{◌≡◌, ◌++◌, ⊤, ℕ, List, [], ◌∷◌, Option, None}
 use Rattle.std.specs.FinMap as map
 use Rattle.std.specs.Option.{option_or}
 use Rattle.gaz_register.specs.Growing.{Extends}
@@ -83,6 +83,28 @@ AllReadOffGrown files (period ∷ periods) =
     AllReadOff (door_of period.register) files period.commands period.responses
     × AllReadOffGrown
     (received_by (door_of period.register) files period.commands period.responses) periods
+
+-- what is asked in all of them, one after another, and what is said
+abbrev pub asked_in : List Period → List Command
+asked_in [] = []
+asked_in (period ∷ periods) = period.commands ++ asked_in periods
+
+abbrev pub said_in : List Period → List Response
+said_in [] = []
+said_in (period ∷ periods) = period.responses ++ said_in periods
+
+-- each of them is under this register
+abbrev pub AreUnder : RegisterValue → List Period → Type 0
+AreUnder register [] = ⊤
+AreUnder register (period ∷ periods) =
+    (period.register ≡ register) × AreUnder register periods
+
+-- periods that are all under one register are one run under it, whichever was the register before
+abbrev pub PeriodsAreOneRun : Type 0
+PeriodsAreOneRun =
+    (register before : RegisterValue) (old new : HubState) (periods : List Period)
+    → AreUnder register periods → GrownRun before old periods new
+    → Run (door_of register) old (asked_in periods) (said_in periods) new
 
 -- after it: what is received is what was there before and then what came first; its custodians are
 -- known to the last register, and the board is partial under that

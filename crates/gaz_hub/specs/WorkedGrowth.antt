@@ -3,7 +3,8 @@ use Rattle.std.specs.Prelude.{◌≡◌, List, [], ◌∷◌, ◌++◌, None, So
 use Rattle.gaz_changefile.specs.Profile.{profile_of}
 use Rattle.gaz_register.specs.Growing.{Extends}
 use Rattle.gaz_register.specs.Registers.{RegisterValue}
-use Rattle.gaz_hub.specs.Growth.{AbidesGrown, Period, first_ever, last_register}
+use Rattle.gaz_hub.specs.Growth.{AbidesGrown, AreUnder, Period, asked_in, first_ever}
+use Rattle.gaz_hub.specs.Growth.{last_register, said_in}
 use Rattle.gaz_hub.specs.Hubs.{door_of}
 use Rattle.gaz_hub.specs.Runs.{first_received}
 use Rattle.gaz_hub.specs.Sample.{sample_custodians}
@@ -50,6 +51,12 @@ pub record WorkedGrowth : Type 0 where
   pub first : profile_of [] ≡ None → first_ever (1004, 1) sends_twice ≡ Some []
   pub nothing_else : first_ever (1003, 1) sends_twice ≡ None
   pub of_none : first_ever (1004, 1) [] ≡ None
+  -- all that was asked and said; and the two are under no one register
+  pub asked : asked_in sends_twice ≡ sends ++ sends
+  pub said : said_in sends_twice ≡ refused ++ answered
+  pub under_two : AreUnder with_new_town sends_twice → ⊥
+  pub under_one : AreUnder sample_custodians
+      (record { register = sample_custodians; commands = sends; responses = refused } ∷ [])
   -- a hub that has it not doesn't abide
   pub never_lost : profile_of [] ≡ None
       → AbidesGrown sample_custodians new_hub sends_twice new_hub → ⊥

@@ -4,6 +4,7 @@ ghost use Rattle.gaz_hub.specs.Chains.{ChainsAreShort, ChainsGrow, ChainsOfBoard
 ghost use Rattle.gaz_hub.specs.Chains.{OneChain, UnallottedStay};
 ghost use Rattle.gaz_hub.specs.Found.{EveryStopOver};
 ghost use Rattle.gaz_hub.specs.Growth.{AnswersStay, EveryGrownRun, GrowthKeeps, GrowthStands};
+ghost use Rattle.gaz_hub.specs.Growth.{PeriodsAreOneRun};
 ghost use Rattle.gaz_hub.specs.Laws.{AllSound, CallsMakeRuns, EachIsTold, EveryAnswerOver};
 ghost use Rattle.gaz_hub.specs.Laws.{EveryRunFromOver, EverySettledRunFromOver};
 ghost use Rattle.gaz_hub.specs.Owners.{OwnersAlone};
@@ -100,6 +101,11 @@ pub fn growth_answers()
 /// settles is the one read off the standing board of the files that are received by then.
 pub fn every_grown_run()
     ensures { EveryGrownRun }
+{}
+
+/// Periods that are all under one register, as calls under it have, are one run under it.
+pub fn periods_are_one_run()
+    ensures { PeriodsAreOneRun }
 {}
 
 /// Every view of a partial board is sound.

@@ -9,7 +9,7 @@ use Rattle.std.specs.List.{range_with_len}
 use Rattle.std.specs.Ordering.{is_eq, nat_cmp}
 use Rattle.std.specs.declared.cmp.Ordering.TheVariants.{Equal}
 use Rattle.sqlite.specs.Order.{Row}
-use Rattle.gaz_records.proofs.LabelOrder.{greater, less}
+use Rattle.gaz_fields.proofs.LabelOrder.{greater, less}
 use Rattle.gaz_views.proofs.Judgements.{append_judged, count_judged, same_judged, verdict_at, view_judged}
 use Rattle.gaz_views.specs.Judgements.{Judgement, judgements}
 use Rattle.gaz_views.specs.View.{empty_view}

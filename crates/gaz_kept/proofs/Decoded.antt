@@ -1,7 +1,7 @@
 -- An item that was read of a body.
 use Rattle.std.proofs.Common.{◌≡◌, ◌∙◌, inl, inr, Result, Ok, sym}
-use Rattle.gaz_records.specs.Fields.{OrMemory}
-use Rattle.gaz_records.specs.declared.fields.FieldFault.{FieldFault}
+use Rattle.gaz_fields.specs.Fields.{OrMemory}
+use Rattle.gaz_fields.specs.declared.fields.FieldFault.{FieldFault}
 use Rattle.gaz_records.specs.declared.item.Item.{Item}
 
 -- it is the one that the body says

@@ -15,7 +15,7 @@ use Rattle.sqlite.specs.declared.types.Value.TheVariants.{Int}
 use Rattle.sqlite.specs.Order.{Row}
 use Rattle.sqlite_rules.specs.Lists.{Has}
 use Rattle.sqlite_rules.proofs.ProbeLemmas.{has_mapped, mapped_has}
-use Rattle.gaz_records.proofs.LabelOrder.{greater}
+use Rattle.gaz_fields.proofs.LabelOrder.{greater}
 use Rattle.gaz_views.specs.declared.verdict.Verdict.{Verdict}
 use Rattle.gaz_keeper.proofs.Pairs.{pairs_exact, pairs_total}
 use Rattle.gaz_sql_facts.specs.Changes.{IsAdded, IsChanged}

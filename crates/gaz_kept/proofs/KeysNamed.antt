@@ -6,8 +6,8 @@ use Rattle.sqlite.specs.Order.{Row, column}
 use Rattle.sqlite_rules.specs.Lists.{Has}
 use Rattle.sqlite_rules.proofs.ListLemmas.{has_at}
 use Rattle.sqlite_rules.proofs.ProbeLemmas.{has_mapped, mapped_has}
-use Rattle.gaz_ledger.proofs.KeyHistories.{keys_ascend}
-use Rattle.gaz_ledger.proofs.Passing.{has, key_map, keys_still}
+use Rattle.gaz_standing.proofs.KeyHistories.{keys_ascend}
+use Rattle.gaz_standing.proofs.Passing.{has, key_map, keys_still}
 use Rattle.gaz_records.proofs.KeyOrder.{keys_exact, keys_total}
 use Rattle.gaz_records.specs.Keys.{key_cmp}
 use Rattle.gaz_records.specs.declared.item.Item.{Item}

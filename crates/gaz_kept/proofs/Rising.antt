@@ -10,8 +10,8 @@ use Rattle.std.specs.declared.cmp.Ordering.TheVariants.{Less, Equal}
 use Rattle.sqlite_rules.specs.Lists.{Has}
 use Rattle.sqlite_rules.proofs.ListLemmas.{all_has, has_filtered, has_kept}
 use Rattle.sqlite_rules.proofs.ProbeLemmas.{has_mapped, mapped_has}
-use Rattle.gaz_ledger.proofs.KeyHistories.{view_ascends}
-use Rattle.gaz_ledger.proofs.Passing.{rows_ascend}
+use Rattle.gaz_standing.proofs.KeyHistories.{view_ascends}
+use Rattle.gaz_standing.proofs.Passing.{rows_ascend}
 use Rattle.gaz_records.proofs.KeyOrder.{keys_exact, keys_total}
 use Rattle.gaz_records.specs.Keys.{key_cmp}
 use Rattle.gaz_records.specs.declared.item.Item.{Item}

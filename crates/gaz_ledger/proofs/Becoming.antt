@@ -12,12 +12,12 @@ use Rattle.gaz_records.specs.declared.item.Item.{Item}
 use Rattle.gaz_histories.specs.Histories.{Version, Versions, before, standing_at, until}
 use Rattle.gaz_views.specs.View.{empty_view}
 use Rattle.gaz_views.specs.declared.custody.Custody.{Custody}
-use Rattle.gaz_ledger.proofs.KeyHistories.{first_view, settled_view}
-use Rattle.gaz_ledger.proofs.RowsAt.{same_rows}
+use Rattle.gaz_standing.proofs.KeyHistories.{first_view, settled_view}
+use Rattle.gaz_standing.proofs.RowsAt.{same_rows}
+use Rattle.gaz_standing.proofs.Versions.{before_within, cut_within, item_set, last, none_at_first, set_within, settled}
+use Rattle.gaz_standing.specs.KeyHistories.{KeyHistories, rows_at, versions_at, view_at}
 use Rattle.gaz_ledger.proofs.Touched.{none_of, none_there}
-use Rattle.gaz_ledger.proofs.Versions.{before_within, cut_within, item_set, last, none_at_first, set_within, settled}
 use Rattle.gaz_ledger.specs.Custodies.{BecomesAt, Custodies, ForgetsAt, IsPassing, PassesAt, custody_after, passed_at, view_with}
-use Rattle.gaz_ledger.specs.KeyHistories.{KeyHistories, rows_at, versions_at, view_at}
 use Rattle.gaz_records.specs.declared.key.Key.{Key}
 
 abbrev Passage : Type 0

@@ -10,17 +10,17 @@ use Rattle.gaz_views.specs.Accounts.{Account, last_of}
 use Rattle.gaz_views.specs.View.{View, with_item, without_key}
 use Rattle.gaz_views.specs.Words.{entries}
 use Rattle.gaz_views.specs.declared.verdict.Verdict.{Verdict}
+use Rattle.gaz_standing.proofs.KeyHistories.{none_taken, past_view, put_view, row_at, settled_view, taken_view}
+use Rattle.gaz_standing.proofs.Versions.{item_set, until_set, used_set}
+use Rattle.gaz_standing.specs.KeyHistories.{ChangesAt, KeyHistories, versions_at, view_at}
+use Rattle.gaz_standing.specs.Indexes.{has_mark, marked_at}
+use Rattle.gaz_standing.specs.declared.index.Index.{Index}
+use Rattle.gaz_standing.specs.declared.index.Mark.{Mark}
 use Rattle.gaz_ledger.proofs.Becoming.{AreWithin, same_with, settled_after}
-use Rattle.gaz_ledger.proofs.KeyHistories.{none_taken, past_view, put_view, row_at, settled_view, taken_view}
 use Rattle.gaz_ledger.proofs.Judgements.{judged_now, last_at, working_now}
 use Rattle.gaz_ledger.proofs.Ledgers.{finds_next, ledger_closed, ledger_set}
-use Rattle.gaz_ledger.proofs.Versions.{item_set, until_set, used_set}
 use Rattle.gaz_ledger.specs.Custodies.{Custodies, IsPassing, custody_after, view_with}
-use Rattle.gaz_ledger.specs.KeyHistories.{ChangesAt, KeyHistories, versions_at, view_at}
-use Rattle.gaz_ledger.specs.Indexes.{has_mark, marked_at}
 use Rattle.gaz_ledger.specs.Ledgers.{Finds, IsLedger, account_at}
-use Rattle.gaz_ledger.specs.declared.index.Index.{Index}
-use Rattle.gaz_ledger.specs.declared.index.Mark.{Mark}
 
 -- an item stands at a key from a volume on, or none any more
 abbrev pub Sets : KeyHistories → KeyHistories → Key → Option Item → ℕ → Type 0

@@ -11,10 +11,10 @@ use Rattle.gaz_views.specs.Judgements.{judgements, views}
 use Rattle.gaz_views.specs.Accounts.{last_of, view_in}
 use Rattle.gaz_views.specs.View.{View, empty_view}
 use Rattle.gaz_views.specs.declared.verdict.Verdict.{Verdict}
+use Rattle.gaz_standing.proofs.KeyHistories.{settled_view}
+use Rattle.gaz_standing.specs.KeyHistories.{KeyHistories, versions_at, view_at}
 use Rattle.gaz_ledger.proofs.Becoming.{AreWithin, first_with, later_with}
-use Rattle.gaz_ledger.proofs.KeyHistories.{settled_view}
 use Rattle.gaz_ledger.specs.Custodies.{Custodies, view_with}
-use Rattle.gaz_ledger.specs.KeyHistories.{KeyHistories, versions_at, view_at}
 use Rattle.gaz_ledger.specs.Ledgers.{account_at}
 
 abbrev pub IsWithin : ℕ → KeyHistories → Type 0

@@ -21,14 +21,14 @@ use Rattle.gaz_views.specs.View.{View, empty_view, with_item, without_key}
 use Rattle.gaz_views.specs.Words.{address_of, entries, first_of, property_of}
 use Rattle.gaz_views.specs.declared.property.Property.{Property}
 use Rattle.gaz_views.specs.declared.verdict.Verdict.{Verdict}
-use Rattle.gaz_ledger.proofs.KeyHistories.{view_ascends}
-use Rattle.gaz_ledger.proofs.Marked.{first_marked, passes}
-use Rattle.gaz_ledger.proofs.Marks.{mark_itself}
-use Rattle.gaz_ledger.proofs.Passing.{Row, has, held, rows_ascend}
-use Rattle.gaz_ledger.specs.Indexes.{has_mark, marked_at, marked_item}
+use Rattle.gaz_standing.proofs.KeyHistories.{view_ascends}
+use Rattle.gaz_standing.proofs.Marked.{first_marked, passes}
+use Rattle.gaz_standing.proofs.Marks.{mark_itself}
+use Rattle.gaz_standing.proofs.Passing.{Row, has, held, rows_ascend}
+use Rattle.gaz_standing.specs.Indexes.{has_mark, marked_at, marked_item}
+use Rattle.gaz_standing.specs.declared.index.Mark.{Mark}
+use Rattle.gaz_standing.specs.declared.index.Mark.TheVariants.{AddressOf}
 use Rattle.gaz_ledger.specs.Properties.{AreSo, is_address_of, is_blpu, known_in}
-use Rattle.gaz_ledger.specs.declared.index.Mark.{Mark}
-use Rattle.gaz_ledger.specs.declared.index.Mark.TheVariants.{AddressOf}
 use Rattle.gaz_ledger.specs.declared.properties.Properties.{Properties}
 
 -- ---- an address is that of the items that have its mark

@@ -22,18 +22,18 @@ use Rattle.gaz_views.specs.Accounts.{Account, empty_account, view_in}
 use Rattle.gaz_views.specs.View.{View, empty_view}
 use Rattle.gaz_views.specs.Words.{entries}
 use Rattle.gaz_views.specs.declared.verdict.Verdict.{Verdict}
+use Rattle.gaz_standing.proofs.KeyHistories.{contains_at, get_at, get_now, holds_at, none_passed, past_view, same_views}
+use Rattle.gaz_standing.proofs.Marked.{finds_with_more, still_finds}
+use Rattle.gaz_standing.proofs.Versions.{before_next, before_within, cut_within, item_set, last, set_within, until_before, until_set}
+use Rattle.gaz_standing.specs.KeyHistories.{ChangesAt, ItemVersions, KeyHistories, versions_at, view_at}
+use Rattle.gaz_standing.specs.Indexes.{FindsAll, has_mark, is_under, marked_at, same_mark}
+use Rattle.gaz_standing.specs.declared.index.Index.{Index}
+use Rattle.gaz_standing.specs.declared.index.Mark.{Mark}
 use Rattle.gaz_ledger.proofs.Becoming.{AreWithin, nothing_passed, passed_after, same_custody}
-use Rattle.gaz_ledger.proofs.KeyHistories.{contains_at, get_at, get_now, holds_at, none_passed, past_view, same_views}
 use Rattle.gaz_ledger.proofs.Judgements.{IsWithin, later_view, view_in_at}
-use Rattle.gaz_ledger.proofs.Marked.{finds_with_more, still_finds}
 use Rattle.gaz_ledger.proofs.Touched.{none_of, none_there}
-use Rattle.gaz_ledger.proofs.Versions.{before_next, before_within, cut_within, item_set, last, set_within, until_before, until_set}
-use Rattle.gaz_ledger.specs.KeyHistories.{ChangesAt, ItemVersions, KeyHistories, versions_at, view_at}
-use Rattle.gaz_ledger.specs.Indexes.{FindsAll, has_mark, is_under, marked_at, same_mark}
 use Rattle.gaz_ledger.specs.Custodies.{Custodies, custody_after, view_with}
 use Rattle.gaz_ledger.specs.Ledgers.{Finds, IsLedger, account_at}
-use Rattle.gaz_ledger.specs.declared.index.Index.{Index}
-use Rattle.gaz_ledger.specs.declared.index.Mark.{Mark}
 
 -- ---- what is found
 

@@ -24,22 +24,23 @@ use Rattle.gaz_views.specs.Words.{entries}
 use Rattle.gaz_views.specs.declared.custody.Custody.{Custody}
 use Rattle.gaz_views.specs.declared.property.Property.{Property}
 use Rattle.gaz_views.specs.declared.verdict.Verdict.{Verdict}
+use Rattle.gaz_standing.proofs.KeyHistories.{contains_at, get_at, get_now, holds_at, none_passed, past_view, put_view, same_views}
+use Rattle.gaz_standing.proofs.Marked.{finds_with_more}
+use Rattle.gaz_standing.proofs.Versions.{item_set, last, settled, some_version, until_set, used_by, used_set}
+use Rattle.gaz_standing.specs.Changing.{IsOneOf, LivesAt, Pair}
+use Rattle.gaz_standing.specs.Indexes.{FindsAll, has_mark, is_under, marked_at}
+use Rattle.gaz_standing.specs.KeyHistories.{ItemVersions, KeyHistories, versions_at, view_at}
+use Rattle.gaz_standing.specs.declared.index.Index.{Index}
+use Rattle.gaz_standing.specs.declared.index.Mark.{Mark}
 use Rattle.gaz_ledger.proofs.Becoming.{AreWithin}
 use Rattle.gaz_ledger.proofs.Judgements.{view_in_at}
-use Rattle.gaz_ledger.proofs.KeyHistories.{contains_at, get_at, get_now, holds_at, none_passed, past_view, put_view, same_views}
 use Rattle.gaz_ledger.proofs.Known.{marked_put, others_put, others_taken, still_so, unmarked_taken}
 use Rattle.gaz_ledger.proofs.Ledgers.{Found, More, finds_by, found_at, ledger_found, reached_of, seen}
-use Rattle.gaz_ledger.proofs.Marked.{finds_with_more}
-use Rattle.gaz_ledger.proofs.Versions.{item_set, last, settled, some_version, until_set, used_by, used_set}
-use Rattle.gaz_ledger.specs.Changing.{IsOneOf, Pair, is_addressed_by, verdict_in}
-use Rattle.gaz_ledger.specs.Indexes.{FindsAll, has_mark, is_under, marked_at}
+use Rattle.gaz_ledger.specs.Changing.{is_addressed_by, verdict_in}
 use Rattle.gaz_ledger.specs.Custodies.{Custodies, custody_after, view_with}
-use Rattle.gaz_ledger.specs.KeyHistories.{ItemVersions, KeyHistories, versions_at, view_at}
 use Rattle.gaz_ledger.specs.Ledgers.{Finds, IsLedger, account_at}
-use Rattle.gaz_ledger.specs.Lives.{IsFreeFrom, IsLifeWithin, LivesAt, Restores, is_gone_by, with_life}
+use Rattle.gaz_ledger.specs.Lives.{IsFreeFrom, IsLifeWithin, Restores, is_gone_by, with_life}
 use Rattle.gaz_ledger.specs.Properties.{AreSo, is_blpu, known_in}
-use Rattle.gaz_ledger.specs.declared.index.Index.{Index}
-use Rattle.gaz_ledger.specs.declared.index.Mark.{Mark}
 use Rattle.gaz_ledger.specs.declared.properties.Properties.{Properties}
 
 -- ---- a version from a volume on

@@ -26,19 +26,20 @@ use Rattle.gaz_views.specs.View.{View, with_item, without_key}
 use Rattle.gaz_views.specs.Words.{property_of}
 use Rattle.gaz_views.specs.declared.custody.Custody.{Custody}
 use Rattle.gaz_views.specs.declared.verdict.Verdict.{Verdict}
+use Rattle.gaz_standing.proofs.Versions.{item_set, last, settled, until_set}
+use Rattle.gaz_standing.specs.Changing.{LivesAt, SetsAt}
+use Rattle.gaz_standing.specs.KeyHistories.{ItemVersions, KeyHistories, versions_at, view_at}
+use Rattle.gaz_standing.specs.declared.index.Index.{Index}
 use Rattle.gaz_ledger.proofs.Becoming.{AreWithin, all_at, inserted_after, past_after}
 use Rattle.gaz_ledger.proofs.Judgements.{view_in_at}
 use Rattle.gaz_ledger.proofs.Ledgers.{reached_of, seen}
 use Rattle.gaz_ledger.proofs.Lives.{finds_lived, last_seen, ledger_lived, lived_view, working_seen}
-use Rattle.gaz_ledger.proofs.Versions.{item_set, last, settled, until_set}
-use Rattle.gaz_ledger.specs.Changing.{SetsAt, verdict_in}
+use Rattle.gaz_ledger.specs.Changing.{verdict_in}
 use Rattle.gaz_ledger.specs.Custodies.{Custodies, IsPassing, PassesAt, passed_at, view_with}
-use Rattle.gaz_ledger.specs.KeyHistories.{ItemVersions, KeyHistories, versions_at, view_at}
 use Rattle.gaz_ledger.specs.Ledgers.{IsLedger, account_at}
-use Rattle.gaz_ledger.specs.Lives.{IsFreeFrom, IsLifeWithin, LivesAt, with_life}
+use Rattle.gaz_ledger.specs.Lives.{IsFreeFrom, IsLifeWithin, with_life}
 use Rattle.gaz_ledger.specs.Passages.{RestoresPassage, SameItems, with_passage, with_passed}
 use Rattle.gaz_ledger.specs.Properties.{AreSo, known_in}
-use Rattle.gaz_ledger.specs.declared.index.Index.{Index}
 use Rattle.gaz_ledger.specs.declared.properties.Properties.{Properties}
 
 -- ---- of the number

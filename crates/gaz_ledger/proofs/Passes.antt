@@ -22,17 +22,18 @@ use Rattle.gaz_views.specs.View.{View, with_item}
 use Rattle.gaz_views.specs.declared.custody.Custody.{Custody}
 use Rattle.gaz_views.specs.declared.custody.Custody.TheVariants.{Adopted}
 use Rattle.gaz_views.specs.declared.verdict.Verdict.{Verdict}
+use Rattle.gaz_standing.proofs.KeyHistories.{contains_at, get_now, same_views}
+use Rattle.gaz_standing.proofs.Versions.{item_set, until_set, used_set}
+use Rattle.gaz_standing.specs.Changing.{SetsAt}
+use Rattle.gaz_standing.specs.KeyHistories.{KeyHistories, versions_at, view_at}
+use Rattle.gaz_standing.specs.declared.index.Index.{Index}
 use Rattle.gaz_ledger.proofs.Becoming.{inserted_after, past_after, put_back, same_with}
 use Rattle.gaz_ledger.proofs.Closings.{Sets, past}
 use Rattle.gaz_ledger.proofs.Judgements.{working_now}
-use Rattle.gaz_ledger.proofs.KeyHistories.{contains_at, get_now, same_views}
 use Rattle.gaz_ledger.proofs.Touched.{none_of}
-use Rattle.gaz_ledger.proofs.Versions.{item_set, until_set, used_set}
-use Rattle.gaz_ledger.specs.Changing.{SetsAt, with_working}
+use Rattle.gaz_ledger.specs.Changing.{with_working}
 use Rattle.gaz_ledger.specs.Custodies.{Custodies, PassesAt, custody_after, passed_at, view_with, with_passing}
-use Rattle.gaz_ledger.specs.KeyHistories.{KeyHistories, versions_at, view_at}
 use Rattle.gaz_ledger.specs.Ledgers.{IsLedger, account_at}
-use Rattle.gaz_ledger.specs.declared.index.Index.{Index}
 
 -- ---- in place of what was just set
 

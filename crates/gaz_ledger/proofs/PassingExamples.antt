@@ -1,12 +1,11 @@
 -- What the definitions on numbers that are passed on come to on worked examples.
 use Rattle.std.proofs.Common.{◌≡◌, ◌≤◌, ◌<◌, ◌∙◌, ◌||◌, ℕ, Bool, true, false, cond, arith, refl, sym, ap, subst, [], ◌∷◌, is_some, unwrap_or}
-use Rattle.std.specs.Prelude.{◌==◌, Option, Some, None, codes}
+use Rattle.std.specs.Prelude.{◌==◌, Option, Some, None}
 use Rattle.std.proofs.lemmas.List.Elements.{All-cons, All-head, All-nil, All-tail}
-use Rattle.std.specs.Cmp.{eq_by_cmp_equiv, nat_cmp_total, unsigned_tied}
+use Rattle.std.specs.Cmp.{nat_cmp_total, unsigned_tied}
 use Rattle.std.specs.FinMap as map
 use Rattle.std.specs.FinSet as set
 use Rattle.std.specs.List.{All}
-use Rattle.std.specs.Option.{option_and_then, option_map_or}
 use Rattle.std.specs.Ordering.{eq_by_cmp, nat_cmp}
 use Rattle.gaz_histories.specs.Histories.{Version, Versions, standing_at, was_used_at}
 use Rattle.gaz_records.proofs.KeyOrder.{keys_total}
@@ -16,18 +15,14 @@ use Rattle.gaz_records.specs.declared.item.Item.TheVariants as item
 use Rattle.gaz_records.specs.declared.key.Key.{Key}
 use Rattle.gaz_records.specs.declared.key.Key.TheVariants as key
 use Rattle.gaz_views.specs.CustodyExamples.{alone}
-use Rattle.gaz_views.specs.Examples.{council_tax}
 use Rattle.gaz_views.proofs.Emptiness.{no_custody}
 use Rattle.gaz_views.specs.View.{custody_at, empty_view, was_used}
 use Rattle.gaz_views.specs.declared.custody.Custody.{Custody}
 use Rattle.gaz_views.specs.declared.custody.Custody.TheVariants.{Adopted, Released}
-use Rattle.gaz_views.specs.Words.{blpu_named}
+use Rattle.gaz_standing.proofs.KeyHistories.{contains_at, get_at}
 use Rattle.gaz_ledger.proofs.Becoming.{passed_after}
-use Rattle.gaz_ledger.proofs.KeyHistories.{contains_at, get_at}
 use Rattle.gaz_ledger.specs.Custodies.{IsPassing, passed_at, view_with}
-use Rattle.gaz_ledger.specs.PassingExamples.{WorkedPassing, WorkedTies, its_key, renamed, two_passings}
-use Rattle.gaz_ledger.specs.KeyHistories.{versions_at}
-use Rattle.gaz_ledger.specs.Ties.{names_at}
+use Rattle.gaz_ledger.specs.PassingExamples.{WorkedPassing, its_key, two_passings}
 
 abbrev passings : Versions Custody
 passings = (1, Some (Released 1002 1)) ∷ (3, Some (Adopted 1002 2)) ∷ []
@@ -107,30 +102,4 @@ passing_examples = record {
   put_back = map.get-insert nat_cmp_total empty_view.custody 500 (Released 1002 1) 500;
   put_back_used = set.contains-insert keys_total empty_view.used (key.Blpu 500) (key.Blpu 500);
   adopts_no_street = refl;
-}
-
-abbrev naming : Versions Item
-naming = (1, Some (council_tax (codes "X1") 1001)) ∷ (3, Some (council_tax (codes "X1") 1002)) ∷ []
-
-abbrev its_xref : Key
-its_xref = key.Xref (codes "X1")
-
-xref_stood : versions_at renamed its_xref ≡ naming
-xref_stood =
-    ap (λ (o : Option (Versions Item)). unwrap_or o []) (map.get-insert keys_total map.empty its_xref naming its_xref ∙ ap (λ (b : Bool). cond b (Some naming) (map.get {R = key_cmp} map.empty its_xref)) ((eq_by_cmp_equiv keys_total).refl its_xref))
-
-xref_names : (volume uprn : ℕ) → names_at renamed volume uprn its_xref ≡ option_map_or (λ n. n == uprn) (option_and_then blpu_named (standing_at naming volume)) false
-xref_names volume uprn = ap (λ (vs : Versions Item). option_map_or (λ n. n == uprn) (option_and_then blpu_named (standing_at vs volume)) false) xref_stood
-
-pub tie_examples : WorkedTies
-tie_examples = record {
-  cross_reference = refl;
-  another_name = refl;
-  its_address = refl;
-  its_part = refl;
-  not_yet = xref_names 0 1001;
-  names = xref_names 2 1001;
-  another = xref_names 2 1002;
-  no_more = xref_names 3 1001;
-  names_another = xref_names 3 1002;
 }

@@ -10,7 +10,7 @@ use Rattle.gaz_records.specs.declared.item.Item.{Item}
 use Rattle.gaz_records.specs.declared.key.Key.TheVariants as key
 use Rattle.gaz_views.specs.View.{View}
 use Rattle.gaz_views.specs.declared.custody.Custody.{Custody}
-use Rattle.gaz_ledger.specs.KeyHistories.{KeyHistories, rows_at, view_at}
+use Rattle.gaz_standing.specs.KeyHistories.{KeyHistories, rows_at, view_at}
 
 -- what became of each number that was ever passed on
 abbrev pub Custodies : Type 0

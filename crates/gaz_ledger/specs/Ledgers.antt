@@ -8,10 +8,10 @@ use Rattle.gaz_views.specs.Accounts.{Account}
 use Rattle.gaz_views.specs.Judgements.{judgements}
 use Rattle.gaz_views.specs.Words.{entries}
 use Rattle.gaz_views.specs.declared.verdict.Verdict.{Verdict}
+use Rattle.gaz_standing.specs.KeyHistories.{KeyHistories, versions_at, view_at}
+use Rattle.gaz_standing.specs.Indexes.{FindsAll}
+use Rattle.gaz_standing.specs.declared.index.Index.{Index}
 use Rattle.gaz_ledger.specs.Custodies.{Custodies, view_with}
-use Rattle.gaz_ledger.specs.KeyHistories.{KeyHistories, versions_at, view_at}
-use Rattle.gaz_ledger.specs.Indexes.{FindsAll}
-use Rattle.gaz_ledger.specs.declared.index.Index.{Index}
 
 -- the account of a gazetteer whose volumes have these verdicts
 abbrev pub account_at : List Verdict → KeyHistories → Custodies → Account

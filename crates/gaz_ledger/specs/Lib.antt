@@ -1,8 +1,3 @@
-pub mod Ranges
-pub mod Indexes
-pub mod KeyHistories
-pub mod KeyHistoriesCode
-pub mod Ties
 pub mod Custodies
 pub mod CustodiesCode
 pub mod Ledgers

@@ -3,14 +3,12 @@ use Rattle.std.specs.Prelude.{◌≡◌, ◌≤◌, ℕ, nat_le, nat_lt, Bool, f
 use Rattle.std.specs.Prelude.{Option, None}
 use Rattle.std.specs.FinMap as map
 use Rattle.std.specs.Option.{IfSome, option_map_or}
-use Rattle.gaz_histories.specs.Histories.{lived}
 use Rattle.gaz_records.specs.Keys.{key_of}
 use Rattle.gaz_records.specs.declared.item.Item.{Item}
 use Rattle.gaz_records.specs.declared.key.Key.{Key}
 use Rattle.gaz_views.specs.Accounts.{Account, view_in}
 use Rattle.gaz_views.specs.View.{View, with_item, without_key}
 use Rattle.gaz_ledger.specs.Changing.{verdict_in}
-use Rattle.gaz_ledger.specs.KeyHistories.{ChangesAt, KeyHistories, versions_at}
 
 -- what goes with a volume, if it goes, is gone by another
 abbrev pub is_gone_by : Option ℕ → ℕ → Bool
@@ -33,10 +31,6 @@ pub record IsLifeWithin (reached born : ℕ) (gone : Option ℕ) : Type 0 where
 -- nothing stands under the key after a volume, nor after any later one
 abbrev pub IsFreeFrom : Account → ℕ → Key → Type 0
 IsFreeFrom a born key = (t : ℕ) → born ≤ t → map.get (view_in a t).items key ≡ None
-
--- the item came to stand at the key from a volume on, and until another where one is given
-abbrev pub LivesAt : KeyHistories → KeyHistories → Key → ℕ → Option ℕ → Item → Type 0
-LivesAt old new key born gone i = ChangesAt old new key (lived (versions_at old key) born gone i)
 
 -- the item's life is put back into an account, the working view of which is that of each volume
 -- that isn't judged

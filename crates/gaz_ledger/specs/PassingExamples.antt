@@ -1,21 +1,17 @@
 -- Worked examples of numbers that are passed on, computed from the definitions.
-use Rattle.std.specs.Prelude.{◌≡◌, true, false, [], ◌∷◌, Some, None, codes}
+use Rattle.std.specs.Prelude.{◌≡◌, true, false, [], ◌∷◌, Some, None}
 use Rattle.std.specs.FinMap as map
-use Rattle.gaz_ids.specs.declared.lang.Lang.TheVariants.{Eng}
-use Rattle.gaz_ids.specs.declared.status.Status.TheVariants.{Alternative, Approved}
 use Rattle.gaz_records.specs.declared.item.Item.TheVariants as item
 use Rattle.gaz_records.specs.declared.key.Key.TheVariants as key
 use Rattle.gaz_views.specs.CustodyExamples.{alone, given_up}
-use Rattle.gaz_views.specs.Examples.{blpu, council_tax, lpi, street}
+use Rattle.gaz_views.specs.Examples.{street}
 use Rattle.gaz_views.specs.View.{custody_at, empty_view, holds, was_used, with_adoption}
 use Rattle.gaz_views.specs.View.{with_release}
 use Rattle.gaz_views.specs.declared.custody.Custody.TheVariants.{Adopted, Released}
 use Rattle.gaz_views.specs.Numbered.{with_adopted}
-use Rattle.gaz_views.specs.Words.{blpu_named}
+use Rattle.gaz_standing.specs.KeyHistories.{KeyHistories}
 use Rattle.gaz_ledger.specs.Custodies.{Custodies, IsPassing, view_with, with_passing}
-use Rattle.gaz_ledger.specs.KeyHistories.{KeyHistories}
 use Rattle.gaz_ledger.specs.Passages.{with_passage}
-use Rattle.gaz_ledger.specs.Ties.{names_at}
 
 -- number 500, where no BLPU ever stood, released to 1002 with volume 1, and adopted with volume 3
 abbrev pub two_passings : Custodies
@@ -56,20 +52,3 @@ pub record WorkedPassing : Type 0 where
   pub put_back_used :
       was_used (with_passage 2 500 (Released 1002 1) 2 empty_view) (key.Blpu 500) ≡ true
   pub adopts_no_street : with_adopted given_up (street 101) 1002 2 ≡ given_up
-
--- property 1001 has the cross reference X1 from volume 1 until volume 3, which names 1002 then
-abbrev pub renamed : KeyHistories
-renamed =
-    map.insert map.empty (key.Xref (codes "X1"))
-    ((1, Some (council_tax (codes "X1") 1001)) ∷ (3, Some (council_tax (codes "X1") 1002)) ∷ [])
-
-pub record WorkedTies : Type 0 where
-  pub cross_reference : blpu_named (council_tax (codes "X1") 1001) ≡ Some 1001
-  pub another_name : blpu_named (lpi (codes "L2") 1001 Eng Alternative 101) ≡ Some 1001
-  pub its_address : blpu_named (lpi (codes "L2") 1001 Eng Approved 101) ≡ Some 1001
-  pub its_part : blpu_named (blpu 1002 (Some 1001)) ≡ None
-  pub not_yet : names_at renamed 0 1001 (key.Xref (codes "X1")) ≡ false
-  pub names : names_at renamed 2 1001 (key.Xref (codes "X1")) ≡ true
-  pub another : names_at renamed 2 1002 (key.Xref (codes "X1")) ≡ false
-  pub no_more : names_at renamed 3 1001 (key.Xref (codes "X1")) ≡ false
-  pub names_another : names_at renamed 3 1002 (key.Xref (codes "X1")) ≡ true

@@ -7,9 +7,9 @@ use Rattle.gaz_records.specs.declared.key.Key.TheVariants as key
 use Rattle.gaz_views.specs.View.{View}
 use Rattle.gaz_views.specs.Words.{property_of}
 use Rattle.gaz_views.specs.declared.property.Property.{Property}
-use Rattle.gaz_ledger.specs.Indexes.{same_mark}
-use Rattle.gaz_ledger.specs.declared.index.Mark.{Mark}
-use Rattle.gaz_ledger.specs.declared.index.Mark.TheVariants.{AddressOf}
+use Rattle.gaz_standing.specs.Indexes.{same_mark}
+use Rattle.gaz_standing.specs.declared.index.Mark.{Mark}
+use Rattle.gaz_standing.specs.declared.index.Mark.TheVariants.{AddressOf}
 use Rattle.gaz_ledger.specs.declared.properties.Properties.{Properties}
 
 -- the property of this number, where it is known

@@ -7,12 +7,11 @@ ghost use Rattle.gaz_ledger.specs.Changing.{Forgets, KnowsNone, LearnsNothing, i
 ghost use Rattle.gaz_ledger.specs.Changing.{with_verdict, with_working};
 ghost use Rattle.gaz_ledger.specs.Properties.{AreSo, is_address_of, is_blpu};
 
-use crate::index::{Mark, Marks, marks_of};
 use crate::ledger::Ledger;
 use crate::properties::Properties;
-use crate::seed::Seed;
 use gaz_ids::Uprn;
 use gaz_records::{Key, Kind, SharedItem, key_of};
+use gaz_standing::{Mark, Marks, Seed, marks_of};
 use gaz_views::{Property, Verdict};
 use std::alloc::{AllocError, Global};
 use std::marker::Model;

@@ -1,16 +1,13 @@
 //! Changes of what stands at keys and of what is found under marks, at the volume after those
 //! reached.
 ghost use Rattle.std.specs.Prelude.{◌≡◌, ◌⊎◌, ◌≤◌, ◌<◌, ◌+◌, ◌-◌, ◌^◌, [], ℕ, IfOk, OnOk, OnErr};
-ghost use Rattle.gaz_ledger.specs.Changing.{AreMarksAt, CutsAt, SetsAt};
-ghost use Rattle.gaz_ledger.specs.KeyHistories.{view_at};
+ghost use Rattle.gaz_standing.specs.Changing.{AreMarksAt, CutsAt, SetsAt};
+ghost use Rattle.gaz_standing.specs.KeyHistories.{view_at};
+ghost use Rattle.gaz_standing.specs.Ties.{AreTies};
 ghost use Rattle.gaz_ledger.specs.Ledgers.{Finds, IsLedger};
-ghost use Rattle.gaz_ledger.specs.Ties.{AreTies};
 
-use crate::histories::Histories;
-use crate::index::{Index, Mark, Marks, marks_of};
-use crate::marked_items::{is_marked, marks_at};
-use crate::ties::Ties;
 use gaz_records::{Key, SharedItem};
+use gaz_standing::{Histories, Index, Mark, Marks, Ties, is_marked, marks_at, marks_of};
 use std::alloc::AllocError;
 
 /// A key whose item had a mark and has it no more.

@@ -4,9 +4,9 @@ ghost use Rattle.std.specs.FinMap as finite;
 ghost use Rattle.gaz_histories.specs.Histories.{BeginsFrom, standing_at};
 ghost use Rattle.gaz_ledger.specs.Custodies.{ForgetsAt, PassesAt, passed_at};
 
-use crate::seed::Seed;
 use gaz_histories::History;
 use gaz_ids::Uprn;
+use gaz_standing::Seed;
 use gaz_views::Custody;
 use std::alloc::{AllocError, Global};
 use std::collections::HashMap;

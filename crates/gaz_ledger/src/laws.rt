@@ -1,6 +1,6 @@
 //! What a reader of the definitions may rely on.
 ghost use Rattle.gaz_ledger.specs.Examples.{WorkedExamples};
-ghost use Rattle.gaz_ledger.specs.PassingExamples.{WorkedPassing, WorkedTies};
+ghost use Rattle.gaz_ledger.specs.PassingExamples.{WorkedPassing};
 
 /// What the definitions come to on worked examples.
 pub fn worked_examples()
@@ -9,6 +9,5 @@ pub fn worked_examples()
 
 /// What the definitions on numbers that are passed on come to on worked examples.
 pub fn worked_passing()
-    ensures passing { WorkedPassing }
-    ensures ties { WorkedTies }
+    ensures { WorkedPassing }
 {}

@@ -4,17 +4,15 @@ ghost use Rattle.std.specs.Prelude.{OnOk, OnErr};
 ghost use Rattle.gaz_records.specs.Keys.{key_of};
 ghost use Rattle.gaz_views.specs.Accounts.{empty_account, last_of};
 ghost use Rattle.gaz_views.specs.View.{with_item, without_key};
-ghost use Rattle.gaz_ledger.specs.Changing.{AreMarksAt, verdict_in, with_verdict, with_working};
+ghost use Rattle.gaz_standing.specs.Changing.{AreMarksAt};
+ghost use Rattle.gaz_ledger.specs.Changing.{verdict_in, with_verdict, with_working};
 
 use crate::changes::{Leaving, change, forget_all, undo_all};
 use crate::custodies::Custodies;
-use crate::histories::Histories;
-use crate::index::{Index, Marks};
 use crate::passage::undo_passing;
-use crate::seed::Seed;
-use crate::ties::Ties;
 use gaz_ids::Uprn;
 use gaz_records::{Key, SharedItem, key_of};
+use gaz_standing::{Histories, Index, Marks, Seed, Ties};
 use gaz_views::Verdict;
 use std::alloc::{AllocError, Global};
 use std::marker::Model;
@@ -42,9 +40,9 @@ impl Model for Ledger {
     ghost use Rattle.std.specs.Prelude.{◌+◌, length};
     ghost use Rattle.gaz_views.specs.Accounts.{Account};
     ghost use Rattle.gaz_views.specs.ViewCode.{account_code};
+    ghost use Rattle.gaz_standing.specs.Ties.{AreTies};
     ghost use Rattle.gaz_ledger.specs.Custodies.{IsPassing};
     ghost use Rattle.gaz_ledger.specs.Ledgers.{IsLedger, account_at};
-    ghost use Rattle.gaz_ledger.specs.Ties.{AreTies};
 
     ghost Value = { Account };
 

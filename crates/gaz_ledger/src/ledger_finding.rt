@@ -6,14 +6,13 @@ ghost use Rattle.gaz_views.specs.Accounts.{view_in};
 ghost use Rattle.gaz_views.specs.View.{was_used};
 ghost use Rattle.gaz_views.specs.Words.{address_of, approved_of, approved_on, entries, first_of};
 ghost use Rattle.gaz_views.specs.Words.{has_children, page, property_of, tied};
+ghost use Rattle.gaz_standing.specs.Indexes.{has_mark};
 ghost use Rattle.gaz_ledger.specs.Changing.{entries_with};
-ghost use Rattle.gaz_ledger.specs.Indexes.{has_mark};
 
-use crate::index::Mark;
 use crate::ledger::Ledger;
-use crate::marked_items::{any_marked, first_marked, keys_marked};
 use gaz_ids::{Lang, Uprn, Usrn};
 use gaz_records::{Key, Kind, SharedItem};
+use gaz_standing::{Mark, any_marked, first_marked, keys_marked};
 use gaz_views::{Property, share_found};
 use std::alloc::{AllocError, Global};
 

@@ -6,16 +6,17 @@ ghost use Rattle.gaz_records.specs.declared.key.Key.TheVariants as key;
 ghost use Rattle.gaz_views.specs.Accounts.{view_in};
 ghost use Rattle.gaz_views.specs.Numbered.{as_blpu, with_adopted};
 ghost use Rattle.gaz_views.specs.View.{custody_at, with_release};
-ghost use Rattle.gaz_ledger.specs.Changing.{AreMarksAt, with_working};
+ghost use Rattle.gaz_standing.specs.Changing.{AreMarksAt};
+ghost use Rattle.gaz_ledger.specs.Changing.{with_working};
 ghost use Rattle.gaz_ledger.specs.Custodies.{with_passing};
 
 use crate::cached_ledger::{CachedLedger, forget_changed};
 use crate::changes::change;
-use crate::index::{Marks, marks_of};
 use crate::ledger::{Ledger, touch};
 use crate::passage::touch_number;
 use gaz_ids::{Code, Hop, Uprn};
 use gaz_records::{Key, SharedItem, key_of};
+use gaz_standing::{Marks, marks_of};
 use gaz_views::Custody;
 use std::alloc::AllocError;
 

@@ -3,8 +3,8 @@ ghost use Rattle.std.specs.Prelude.{◌≡◌, ℕ, is_some, None, OnErr, OnOk, 
 ghost use Rattle.gaz_ledger.specs.Changing.{KnowsOf};
 ghost use Rattle.gaz_ledger.specs.Properties.{known_in};
 
-use crate::seed::Seed;
 use gaz_ids::Uprn;
+use gaz_standing::Seed;
 use gaz_views::Property;
 use std::alloc::{AllocError, Global};
 use std::collections::HashMap;

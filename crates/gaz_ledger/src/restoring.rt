@@ -2,16 +2,15 @@
 ghost use Rattle.std.specs.Prelude.{◌≡◌, ◌↔◌, ◌<◌, ◌-◌, ◌^◌, length, IsTrue, None, OnOk, OnErr};
 ghost use Rattle.std.specs.Prelude.{Some};
 ghost use Rattle.gaz_records.specs.Keys.{key_of};
-ghost use Rattle.gaz_ledger.specs.Changing.{HasMarksIn, IsUnderItsMarks, KeepsUnder};
+ghost use Rattle.gaz_standing.specs.Changing.{HasMarksIn, IsUnderItsMarks, KeepsUnder, LivesAt};
 ghost use Rattle.gaz_ledger.specs.Ledgers.{Finds};
-ghost use Rattle.gaz_ledger.specs.Lives.{IsFreeFrom, IsLifeWithin, LivesAt, Restores};
+ghost use Rattle.gaz_ledger.specs.Lives.{IsFreeFrom, IsLifeWithin, Restores};
 
 use crate::cached_ledger::{CachedLedger, forget_changed};
 use crate::changes::forget;
-use crate::histories::Histories;
-use crate::index::{Index, Marks, marks_of};
 use crate::ledger::Ledger;
 use gaz_records::{Item, Key, SharedItem, key_of};
+use gaz_standing::{Histories, Index, Marks, marks_of};
 use std::alloc::AllocError;
 
 impl Ledger {

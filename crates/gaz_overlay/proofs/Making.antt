@@ -1,5 +1,5 @@
 -- What each change makes of the working view.
-use Rattle.std.proofs.Common.{◌≡◌, ◌∙◌, ◌||◌, Bool, true, false, cond, sym, ap, refl, subst, is_some, true≢false}
+use Rattle.std.proofs.Common.{◌≡◌, ◌∙◌, ◌||◌, ℕ, Bool, true, false, cond, sym, ap, refl, subst, is_some, true≢false}
 use Rattle.std.specs.Prelude.{Option, Some, None, option_map}
 use Rattle.std.specs.FinMap as finite
 use Rattle.std.specs.FinSet as set
@@ -9,12 +9,15 @@ use Rattle.gaz_records.proofs.KeyOrder.{keys_total}
 use Rattle.gaz_records.specs.Items.{is_entry}
 use Rattle.gaz_records.specs.Keys.{key_cmp, key_of}
 use Rattle.gaz_records.specs.declared.item.Item.{Item}
+use Rattle.gaz_records.specs.Blpus.{BlpuValue}
+use Rattle.gaz_records.specs.declared.item.Item.TheVariants as item
 use Rattle.gaz_records.specs.declared.key.Key.{Key}
+use Rattle.gaz_records.specs.declared.key.Key.TheVariants as key
 use Rattle.gaz_views.proofs.Emptiness.{no_custody, used_none}
 use Rattle.gaz_views.proofs.Lawful.{lawful_empty}
 use Rattle.gaz_views.specs.Lawful.{IsLawfulView}
 use Rattle.gaz_views.specs.View.{View, custody_at, was_used, with_adoption, with_item, with_release, without_key}
-use Rattle.gaz_overlay.specs.Changes.{Changes, is_passed_key, is_touched, no_changes, stood_in, was_there, was_used_in, with_put, with_put_first, with_touched}
+use Rattle.gaz_overlay.specs.Changes.{Changes, is_passed_key, is_touched, no_changes, stood_in, was_there, was_used_in, with_put, with_touched}
 use Rattle.gaz_overlay.specs.Laid.{laid}
 use Rattle.gaz_overlay.specs.Making.{ChangesMake}
 use Rattle.gaz_overlay.specs.Over.{IsLast, IsStood, LieOver, Make, key_view}
@@ -23,7 +26,6 @@ use Rattle.gaz_overlay.specs.declared.touch.NewRow.{NewRow}
 use Rattle.gaz_overlay.specs.declared.touch.Stood.{Stood}
 use Rattle.gaz_overlay.specs.declared.touch.Stood.TheVariants.{NoRow, Past, Since}
 use Rattle.gaz_overlay.specs.declared.touch.Touch.{Touch}
-use Rattle.gaz_overlay.proofs.Kept.{noted_there}
 use Rattle.gaz_overlay.proofs.Laid.{adopted, at_key, custody_laid_is, nothing, put, released, same_view, taken, tie, used_at}
 use Rattle.gaz_overlay.proofs.Touching.{none_there, put_over, taken_over, touched_laid, touched_over, unused}
 use Rattle.gaz_overlay.proofs.NumbersPassed.{adopted_over, released_over}
@@ -102,32 +104,47 @@ own_row v c over k r is = by_touch (finite.get c.touched k) refl is
     by_touch None there h = let none : None ≡ Some r = h in cc
     by_touch (Some t) there h = by_last t there (is_some (finite.get c.view.items k)) t.last refl h
 
--- ---- what is put hides what stood there
+-- ---- what hides what stood there
 
-hidden : (v : View) (was i : Item) → key_of was ≡ key_of i → with_item (with_item v was) i ≡ with_item v i
-hidden v was i same = same_view _ _ refl
-    (λ q. finite.get-insert keys_total (with_item v was).items k i q ∙ by_tie (tie q k) (finite.get v.items q) (finite.get-insert keys_total v.items (key_of was) was q ∙ ap (λ p. cond (tie q p) (Some was) (finite.get v.items q)) same)
-    ∙ sym (finite.get-insert keys_total v.items k i q))
-    (λ q. set.contains-insert keys_total (with_item v was).used k q ∙ by_use (tie q k) (was_used v q) (set.contains-insert keys_total v.used (key_of was) q ∙ ap (λ p. tie q p || was_used v q) same)
-    ∙ sym (set.contains-insert keys_total v.used k q))
-  where
-    k : Key
-    k = key_of i
+module _ (v : View) (was : Item) (k : Key) (own : key_of was ≡ k) where
+  item_then : (q : Key) → finite.get (with_item v was).items q ≡ cond (tie q k) (Some was) (finite.get v.items q)
+  item_then q = finite.get-insert keys_total v.items (key_of was) was q ∙ ap (λ p. cond (tie q p) (Some was) (finite.get v.items q)) own
 
-    by_tie : (t : Bool) (o : Option Item) {w : Option Item} → w ≡ cond t (Some was) o → cond t (Some i) w ≡ cond t (Some i) o
-    by_tie true o e = refl
-    by_tie false o e = e
+  use_then : (q : Key) → was_used (with_item v was) q ≡ (tie q k || was_used v q)
+  use_then q = set.contains-insert keys_total v.used (key_of was) q ∙ ap (λ p. tie q p || was_used v q) own
 
-    by_use : (t u : Bool) {w : Bool} → w ≡ (t || u) → (t || w) ≡ (t || u)
-    by_use true u e = refl
-    by_use false u e = e
+  item_hidden : (x : Option Item) (q : Key) → cond (tie q k) x (finite.get (with_item v was).items q) ≡ cond (tie q k) x (finite.get v.items q)
+  item_hidden x q = by_tie (tie q k) (item_then q)
+    where
+      by_tie : (t : Bool) {w : Option Item} → w ≡ cond t (Some was) (finite.get v.items q) → cond t x w ≡ cond t x (finite.get v.items q)
+      by_tie true e = refl
+      by_tie false e = e
 
-put_over_any : (v : View) (c : Changes) (w : View) → IsLawfulView v → (i : Item) (stood : Stood) (o : Option Item) → finite.get v.items (key_of i) ≡ o
-    → Make v (with_put (with_touched c (key_of i) stood o) i) w → Make v (with_put_first c stood i) w
-put_over_any v c w last i stood None there makes = makes
-put_over_any v c w last i stood (Some was) there makes =
-    let d = with_put_first c stood i in
-    subst (λ (s : View). Make v (record { view = s; touched = d.touched; passed = d.passed }) w) (hidden c.view was i (last.keyed (key_of i) was there)) makes
+  use_hidden : (q : Key) → (tie q k || was_used (with_item v was) q) ≡ (tie q k || was_used v q)
+  use_hidden q = by_tie (tie q k) (use_then q)
+    where
+      by_tie : (t : Bool) {w : Bool} → w ≡ (t || was_used v q) → (t || w) ≡ (t || was_used v q)
+      by_tie true e = refl
+      by_tie false e = e
+
+put_hidden : (v : View) (was i : Item) → key_of was ≡ key_of i → with_item (with_item v was) i ≡ with_item v i
+put_hidden v was i own =
+    let k = key_of i in
+    same_view _ _ refl
+    (λ q. finite.get-insert keys_total (with_item v was).items k i q ∙ item_hidden v was k own (Some i) q ∙ sym (finite.get-insert keys_total v.items k i q))
+    (λ q. set.contains-insert keys_total (with_item v was).used k q ∙ use_hidden v was k own q ∙ sym (set.contains-insert keys_total v.used k q))
+
+release_hidden : (v : View) (was : Item) (n to hop : ℕ) → key_of was ≡ key.Blpu n → with_release (with_item v was) n to hop ≡ with_release v n to hop
+release_hidden v was n to hop own =
+    let k = key.Blpu n in
+    same_view _ _ refl
+    (λ q. finite.get-remove keys_total (with_item v was).items k q ∙ item_hidden v was k own None q ∙ sym (finite.get-remove keys_total v.items k q))
+    (λ q. set.contains-insert keys_total (with_item v was).used k q ∙ use_hidden v was k own q ∙ sym (set.contains-insert keys_total v.used k q))
+
+adoption_hidden : (v : View) (was : Item) (b : BlpuValue) (from hop : ℕ) → key_of was ≡ key.Blpu b.uprn → with_adoption (with_item v was) b from hop ≡ with_adoption v b from hop
+adoption_hidden v was b from hop own =
+    let same = put_hidden v was (item.Blpu b) own in
+    λ j. record { items = (same j).items; used = (same j).used; custody = (with_adoption v b from hop).custody }
 
 -- ---- all together
 
@@ -154,10 +171,9 @@ changes_make = record {
   nothing = λ v. record { over = nothing_over v; is_laid = sym (nothing v) };
   touched = touched_made;
   put = put_made;
-  put_first = λ v c w last made i stood entry fresh so.
-      let k = key_of i in
-      let there = finite.get v.items k in
-      put_over_any v c (with_item w i) last i stood there refl (put_made v (with_touched c k stood there) w (touched_made v c w last made k stood fresh so) i entry (noted_there c.touched k (record { stood = stood; last = None })));
+  put_hides = put_hidden;
+  release_hides = release_hidden;
+  adoption_hides = adoption_hidden;
   taken = λ v c w made k noted.
       record { over = taken_over v c made.over k; is_laid = ap (λ (u : View). without_key u k) made.is_laid ∙ taken v c.view made.over.lawful k (none_there v c made.over k noted) };
   released = λ v c w made n to hop since noted so.

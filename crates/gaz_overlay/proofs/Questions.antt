@@ -8,8 +8,8 @@ use Rattle.std.specs.List.{list_any}
 use Rattle.std.specs.List.Sorted.{IsStrictlySortedBy}
 use Rattle.std.specs.Option.{option_and_then, option_map_or}
 use Rattle.std.specs.Ordering.{eq_by_cmp, is_eq}
-use Rattle.gaz_ledger.proofs.KeyHistories.{view_ascends}
-use Rattle.gaz_ledger.proofs.Passing.{Ascends, first_row, has, held, in_key_order, is_cons, keys_back, rows_ascend, same_maps, some_keys, some_kept}
+use Rattle.gaz_standing.proofs.KeyHistories.{view_ascends}
+use Rattle.gaz_standing.proofs.Passing.{Ascends, first_row, has, held, in_key_order, is_cons, keys_back, rows_ascend, same_maps, some_keys, some_kept}
 use Rattle.gaz_records.specs.contracts.key.KeyOrd.TheImpl.{cmp-value as key-value}
 use Rattle.gaz_records.proofs.KeyOrder.{keys_total}
 use Rattle.gaz_records.specs.Keys.{key_cmp}

@@ -53,7 +53,8 @@ was_there (Since volume) = true
 abbrev pub was_used_in : Changes → Key → Bool
 was_used_in c k = was_used c.view k || was_there (stood_in c.touched k)
 
--- a key is touched at which this item stood before, or none
+-- a key is touched at which this item stood before, or none; one that is hidden next may be left
+-- out
 abbrev pub with_touched : Changes → Key → Stood → Option Item → Changes
 with_touched c k stood found = record c {
   view = with_some c.view found;
@@ -69,10 +70,6 @@ with_put c i = record c {
     last = Some i;
   });
 }
-
--- an item is put at its key, which is touched with that, whatever item stood there
-abbrev pub with_put_first : Changes → Stood → Item → Changes
-with_put_first c stood i = with_put (with_touched c (key_of i) stood None) i
 
 -- the item of a touched key is taken
 abbrev pub with_taken : Changes → Key → Changes

@@ -6,7 +6,7 @@ use Rattle.gaz_records.specs.declared.key.Key.TheVariants as key
 use Rattle.gaz_views.specs.Examples.{one_street, street}
 use Rattle.gaz_views.specs.View.{View, empty_view, was_used, with_item, without_key}
 use Rattle.gaz_overlay.specs.Changes.{Changes, is_touched, no_changes, stood_in, was_used_in}
-use Rattle.gaz_overlay.specs.Changes.{with_put, with_put_first, with_taken, with_touched}
+use Rattle.gaz_overlay.specs.Changes.{with_put, with_taken, with_touched}
 use Rattle.gaz_overlay.specs.Laid.{laid, with_copied}
 use Rattle.gaz_overlay.specs.Over.{IsStood, key_view}
 use Rattle.gaz_overlay.specs.Questions.{both, in_order}
@@ -60,7 +60,7 @@ two_touched =
 
 -- or it is put without the item that stood there
 abbrev pub put_at_once : Changes
-put_at_once = with_put_first no_changes (Since 1) (street 101)
+put_at_once = with_put (with_touched no_changes (key.Street 101) (Since 1) None) (street 101)
 
 pub record WorkedChanges : Type 0 where
   pub first_touched : is_touched two_touched (key.Street 101) ≡ true

@@ -11,8 +11,8 @@ use Rattle.gaz_views.specs.Lawful.{IsLawfulView}
 use Rattle.gaz_views.specs.View.{View, custody_at, was_used, with_adoption, with_item, with_release}
 use Rattle.gaz_views.specs.View.{without_key}
 use Rattle.gaz_overlay.specs.Changes.{Changes, is_passed, is_touched, no_changes, was_used_in}
-use Rattle.gaz_overlay.specs.Changes.{with_adopted_blpu, with_put, with_put_first, with_released}
-use Rattle.gaz_overlay.specs.Changes.{with_taken, with_touched}
+use Rattle.gaz_overlay.specs.Changes.{with_adopted_blpu, with_put, with_released, with_taken}
+use Rattle.gaz_overlay.specs.Changes.{with_touched}
 use Rattle.gaz_overlay.specs.Laws.{custody_laid_at}
 use Rattle.gaz_overlay.specs.Over.{IsStood, Make, key_view}
 use Rattle.gaz_overlay.specs.Writings.{writing_at}
@@ -35,10 +35,6 @@ pub record ChangesMake : Type 0 where
   -- to put and to take, to release and to adopt do just that
   pub put : (v : View) (c : Changes) (w : View) → Make v c w → (i : Item) → is_entry i ≡ true
       → is_touched c (key_of i) ≡ true → Make v (with_put c i) (with_item w i)
-  -- also where the key is touched so
-  pub put_first : (v : View) (c : Changes) (w : View) → IsLawfulView v → Make v c w → (i : Item)
-      → (stood : Stood) → is_entry i ≡ true → is_touched c (key_of i) ≡ false
-      → IsStood stood (key_view v (key_of i)) → Make v (with_put_first c stood i) (with_item w i)
   pub taken : (v : View) (c : Changes) (w : View) → Make v c w → (k : Key) → is_touched c k ≡ true
       → Make v (with_taken c k) (without_key w k)
   pub released : (v : View) (c : Changes) (w : View) → Make v c w → (uprn to hop : ℕ)
@@ -48,6 +44,15 @@ pub record ChangesMake : Type 0 where
       → (from hop : ℕ) (since : Option ℕ) → is_touched c (key.Blpu blpu.uprn) ≡ true
       → IsSince v c blpu.uprn since
       → Make v (with_adopted_blpu c blpu from hop since) (with_adoption w blpu from hop)
+  -- what is put hides the item that stood at its key
+  pub put_hides : (v : View) (was i : Item) → key_of was ≡ key_of i
+      → with_item (with_item v was) i ≡ with_item v i
+  -- and to pass a number on hides its BLPU
+  pub release_hides : (v : View) (was : Item) (uprn to hop : ℕ) → key_of was ≡ key.Blpu uprn
+      → with_release (with_item v was) uprn to hop ≡ with_release v uprn to hop
+  pub adoption_hides : (v : View) (was : Item) (blpu : BlpuValue) (from hop : ℕ)
+      → key_of was ≡ key.Blpu blpu.uprn
+      → with_adoption (with_item v was) blpu from hop ≡ with_adoption v blpu from hop
   -- of a number that was passed on the changes say what became of it, of others the last view
   pub custody : (v : View) (c : Changes) (w : View) → Make v c w → (uprn : ℕ)
       → custody_at w uprn ≡ custody_laid_at v c.view uprn

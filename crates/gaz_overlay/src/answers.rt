@@ -1,6 +1,6 @@
 //! What is asked of the changes, and of the laid view.
 ghost use Rattle.std.specs.Prelude.{◌≡◌, filter, IfOk};
-ghost use Rattle.gaz_views.specs.Words.{approved_of, approved_on, first_of, has_children, tied};
+ghost use Rattle.gaz_views.specs.Words.{approved_of, approved_on, has_children, tied};
 ghost use Rattle.gaz_overlay.specs.Laid.{untouched};
 ghost use Rattle.gaz_overlay.specs.Questions.{both};
 

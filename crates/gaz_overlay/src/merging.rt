@@ -3,7 +3,7 @@ ghost use Rattle.std.specs.Prelude.{◌≡◌, ◌||◌, ◌++◌, IfOk, OnOk};
 ghost use Rattle.std.specs.List.Sorted.{IsStrictlySortedBy};
 ghost use Rattle.gaz_records.specs.declared.key.Key.{Key};
 ghost use Rattle.gaz_overlay.specs.Questions.{in_order};
-ghost use Rattle.gaz_ledger.specs.Indexes.{has_key};
+ghost use Rattle.gaz_standing.specs.Indexes.{has_key};
 
 use gaz_records::Key;
 use std::alloc::{AllocError, Global};

@@ -4,7 +4,7 @@ ghost use Rattle.std.specs.FinMap as map;
 ghost use Rattle.gaz_records.specs.Keys.{key_of};
 ghost use Rattle.gaz_views.specs.View.{was_used};
 ghost use Rattle.gaz_overlay.specs.Changes.{is_touched, no_changes, was_used_in, with_put};
-ghost use Rattle.gaz_overlay.specs.Changes.{with_put_first, with_taken, with_touched};
+ghost use Rattle.gaz_overlay.specs.Changes.{with_taken, with_touched};
 ghost use Rattle.gaz_overlay.specs.Laid.{with_some};
 ghost use Rattle.gaz_overlay.specs.Writings.{writing_at};
 
@@ -24,8 +24,8 @@ pub const WORKING: u64 = 1;
 /// is, and what is to be written for each key and each number when it is kept.
 ///
 /// A key is touched before it is put, taken or passed on: then the caller says what the tables have
-/// there. The last view's other answers come from the caller too, and the overlay's functions make
-/// of them those of the laid view.
+/// there. What the last view answers is the caller's too; to lay the changes' answers over it is
+/// left to him, but for `approved_of`.
 #[derive(Drop)]
 pub struct Overlay {
     pub(crate) ledger: CachedLedger,
@@ -69,7 +69,8 @@ impl Overlay {
     }
 
     /// Touches a key for the first time: this stood there before, with its item where there was a
-    /// current row. Where memory runs out, nothing changes.
+    /// current row. The item may be left out where one is put at the key next, or its number passed
+    /// on, since either hides it. Where memory runs out, nothing changes.
     pub fn touch(
         &mut self,
         key: &Key,
@@ -112,22 +113,6 @@ impl Overlay {
         let last = item.share()?;
         self.ledger.put(item)?;
         self.touches.note_last(&key, last);
-        Ok(())
-    }
-
-    /// Sets an item at a key that isn't touched yet, where this stood before: which item that was
-    /// needs not be known. Where memory runs out, nothing changes.
-    pub fn put_first(&mut self, stood: Stood, item: SharedItem) -> Result<(), AllocError>
-        requires { is_touched self.old (key_of item) ≡ false }
-        ensures ok { OnOk result (self.new ≡ with_put_first self.old stood item) }
-        ensures err { OnErr result (self.new ≡ self.old) }
-    {
-        let key = key_of(&item);
-        self.touch(&key, stood, None)?;
-        if let Err(error) = self.put(item) {
-            self.touches.forget(&key);
-            return Err(error);
-        }
         Ok(())
     }
 

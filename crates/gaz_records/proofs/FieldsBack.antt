@@ -7,10 +7,12 @@ use Rattle.gaz_ids.specs.declared.lang.Lang.{Lang}
 use Rattle.gaz_ids.specs.declared.status.Status.{Status}
 use Rattle.gaz_addressable.specs.Texts.{is_text}
 use Rattle.gaz_addressable.specs.Objects.{ObjectValue, is_object, is_text_or_none}
-use Rattle.gaz_records.specs.Days.{CivilDay, is_day_or_none, ends_by, is_day}
-use Rattle.gaz_records.specs.Fields.{field}
-use Rattle.gaz_records.specs.Forms.{Digits, of_blpu, says}
-use Rattle.gaz_records.specs.Labels.{is_label}
+use Rattle.gaz_fields.specs.Days.{CivilDay, is_day_or_none, ends_by, is_day}
+use Rattle.gaz_fields.specs.Fields.{field}
+use Rattle.gaz_fields.specs.Forms.{Digits, of_blpu, says}
+use Rattle.gaz_fields.specs.Labels.{is_label}
+use Rattle.gaz_fields.proofs.Both.{and-left, and-right}
+use Rattle.gaz_fields.proofs.Says.{says-blank_object, says-blpu_status, says-day, says-end, says-label, says-lang, says-number, says-object, says-opt_object, says-opt_text, says-status, says-text}
 use Rattle.gaz_records.specs.Streets.{StreetValue, is_type_number, is_street, is_usrn, read_street, street_texts}
 use Rattle.gaz_records.specs.Descriptors.{DescriptorValue, descriptor_texts, is_descriptor, read_descriptor}
 use Rattle.gaz_records.specs.Blpus.{BlpuValue, blpu_texts, is_blpu, is_parent, is_uprn, read_blpu}
@@ -20,8 +22,7 @@ use Rattle.gaz_records.specs.Releases.{is_code, is_hop, is_release, read_release
 use Rattle.gaz_records.specs.Adopts.{adopt_texts, is_adopt, read_adopt}
 use Rattle.gaz_records.specs.declared.adopt.Adopt.{Adopt}
 use Rattle.gaz_records.specs.declared.release.Release.{Release}
-use Rattle.gaz_records.proofs.Both.{and-left, and-right}
-use Rattle.gaz_records.proofs.Says.{says-blank_object, says-blpu_status, says-day, says-end, says-label, says-lang, says-number, says-object, says-opt_object, says-opt_text, says-parent, says-status, says-text}
+use Rattle.gaz_records.proofs.LeftOut.{says-parent}
 
 usrn-says : (f : List (List ℕ)) (i n : ℕ) → field f i ≡ decimal n → is_usrn n ≡ true → says (Digits 8 1 99_999_999) f i ≡ Some n
 usrn-says f i n at h = says-number f i 8 1 99_999_999 n at (lit< tt) (lit< tt) (lit< tt) h

@@ -6,13 +6,13 @@ use Rattle.std.proofs.lemmas.Fmt.{decimal_nonempty, digits_decimal}
 use Rattle.gaz_ids.proofs.Numerals.{digit_at, own}
 use Rattle.gaz_rows.specs.Rows.{line_of, one_row}
 use Rattle.gaz_rows.proofs.Back.{line-only, no-mark}
+use Rattle.gaz_fields.specs.Labels.{are_label_bytes, is_label, is_label_byte}
+use Rattle.gaz_fields.proofs.Both.{and-left, and-right}
 use Rattle.gaz_records.specs.Items.{is_item, item_of_text, item_text, item_texts, kind_of, read_item}
-use Rattle.gaz_records.specs.Labels.{are_label_bytes, is_label, is_label_byte}
 use Rattle.gaz_records.specs.Streets.{is_usrn}
 use Rattle.gaz_records.specs.Blpus.{is_uprn}
 use Rattle.gaz_records.specs.declared.item.Item.{Item}
 use Rattle.gaz_records.specs.declared.item.Item.TheVariants as item
-use Rattle.gaz_records.proofs.Both.{and-left, and-right}
 use Rattle.gaz_records.proofs.FieldsBack.{adopt_fields, blpu_fields, descriptor_fields, lpi_fields, release_fields, street_fields, xref_fields}
 
 pub fields-back : (x : Item) → is_item x ≡ true → read_item (kind_of x) (item_texts x) ≡ Ok x

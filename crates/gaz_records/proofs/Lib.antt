@@ -1,15 +1,6 @@
-pub mod Both
-pub mod Dates
-pub mod Places
-pub mod LabelBytes
-pub mod LabelOrder
-pub mod Written
-pub mod Growing
-pub mod Says
+pub mod LeftOut
 pub mod FieldsBack
 pub mod ItemsBack
-pub mod ReadFields
-pub mod ReadObjects
 pub mod ReadItems
 pub mod KeyOrder
 pub mod SortOrder

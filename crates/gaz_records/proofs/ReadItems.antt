@@ -1,7 +1,12 @@
 -- What the fields of a record say is an item that the table allows.
 use Rattle.std.proofs.Common.{◌≡◌, ℕ, ◌+◌, Bool, true, false, List, [], ◌∷◌, length, refl, ◌∙◌, subst, Some, None, Ok, Err}
 use Rattle.std.specs.Prelude.{◌==◌, is_some, Option, if◌then◌else◌, Result}
-use Rattle.gaz_records.specs.Forms.{Form, first_bad, in_form, says, total_width, unless_bad, width}
+use Rattle.gaz_fields.specs.Forms.{Form, first_bad, in_form, says, total_width, unless_bad, width}
+use Rattle.gaz_fields.specs.declared.fields.FieldFault.{FieldFault}
+use Rattle.gaz_fields.specs.declared.fields.FieldFault.TheVariants as fault
+use Rattle.gaz_fields.proofs.Both.{and-both, and-right}
+use Rattle.gaz_fields.proofs.ReadObjects.{object-fits}
+use Rattle.gaz_fields.proofs.ReadFields.{blpu_status-fits, day-fits, end-fits, label-fits, number-fits, opt_text-fits, text-fits}
 use Rattle.gaz_records.specs.Streets.{is_street, read_street, street_said}
 use Rattle.gaz_records.specs.Descriptors.{descriptor_said, is_descriptor, read_descriptor}
 use Rattle.gaz_records.specs.Blpus.{blpu_said, is_blpu, read_blpu}
@@ -11,15 +16,11 @@ use Rattle.gaz_records.specs.Releases.{is_release, read_release, release_said}
 use Rattle.gaz_records.specs.Adopts.{adopt_said, is_adopt, read_adopt}
 use Rattle.gaz_records.specs.Items.{ReadsItems, is_item, kind_of, map_ok}
 use Rattle.gaz_records.specs.Table.{adopt_table, blpu_table, descriptor_table, lpi_table, release_table, street_table, xref_table}
-use Rattle.gaz_records.specs.declared.fields.FieldFault.{FieldFault}
-use Rattle.gaz_records.specs.declared.fields.FieldFault.TheVariants as fault
 use Rattle.gaz_records.specs.declared.item.Item.{Item}
 use Rattle.gaz_records.specs.declared.item.Item.TheVariants as item
 use Rattle.gaz_records.specs.declared.item.Kind.{Kind}
 use Rattle.gaz_records.specs.declared.item.Kind.TheVariants as kind
-use Rattle.gaz_records.proofs.Both.{and-both, and-right}
-use Rattle.gaz_records.proofs.ReadObjects.{object-fits, opt_object-fits}
-use Rattle.gaz_records.proofs.ReadFields.{blpu_status-fits, day-fits, end-fits, label-fits, number-fits, opt_text-fits, parent-fits, text-fits}
+use Rattle.gaz_records.proofs.LeftOut.{opt_object-fits, parent-fits}
 
 -- where fields are in their forms, none is bad, and what they say is what is answered
 record InForm {A : Type 0} (forms : List Form) (f : List (List ℕ)) (said answer : A) : Type 0 where

@@ -12,13 +12,13 @@ use Rattle.std.specs.Ordering.{nat_cmp, ordering_then}
 use Rattle.std.specs.declared.cmp.Ordering.{Ordering}
 use Rattle.std.specs.declared.cmp.Ordering.TheVariants.{Less, Equal, Greater}
 use Rattle.gaz_ids.specs.declared.lang.Lang.TheVariants.{Cym, Eng}
+use Rattle.gaz_fields.specs.Labels.{AreBytes, are_label_bytes, first_half, is_label, label_cmp, padded, second_half, seven_bytes, word}
+use Rattle.gaz_fields.proofs.LabelBytes.{label_before_zero}
+use Rattle.gaz_fields.proofs.LabelOrder.{ahead, behind, by_word, greater, label_bytes, less, rest_of_bytes, with_zeros, word_below}
 use Rattle.gaz_records.specs.Keys.{key_cmp, kind_number, number_in, text_in}
-use Rattle.gaz_records.specs.Labels.{AreBytes, are_label_bytes, is_label, label_cmp, padded, word}
-use Rattle.gaz_records.specs.SortKeys.{IsSortKey, behind_kind, bytes_of, first_half, has_label, high_of, key_at, key_from, label_in, low_of, second_half, seven_bytes, text_of}
+use Rattle.gaz_records.specs.SortKeys.{IsSortKey, behind_kind, bytes_of, has_label, high_of, key_at, key_from, label_in, low_of, text_of}
 use Rattle.gaz_records.specs.declared.key.Key.{Key}
 use Rattle.gaz_records.specs.declared.key.Key.TheVariants as key
-use Rattle.gaz_records.proofs.LabelBytes.{label_before_zero}
-use Rattle.gaz_records.proofs.LabelOrder.{ahead, behind, by_word, greater, label_bytes, less, rest_of_bytes, with_zeros, word_below}
 
 -- ---- a label from its halves
 

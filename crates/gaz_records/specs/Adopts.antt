@@ -1,12 +1,12 @@
 -- Adoptions: what their fields say, and how they are written.
 use Rattle.std.specs.Prelude.{ℕ, ◌&&◌, List, ◌∷◌, Result, Bool, decimal}
 use Rattle.std.specs.Option.{unwrap_or}
-use Rattle.gaz_records.specs.Forms.{in_form, says}
+use Rattle.gaz_fields.specs.Forms.{in_form, says}
+use Rattle.gaz_fields.specs.declared.fields.FieldFault.{FieldFault}
 use Rattle.gaz_records.specs.Table.{adopt_table, code, hop}
 use Rattle.gaz_records.specs.Blpus.{blpu_said, is_blpu, texts_behind}
 use Rattle.gaz_records.specs.Releases.{is_code, is_hop}
 use Rattle.gaz_records.specs.declared.adopt.Adopt.{Adopt}
-use Rattle.gaz_records.specs.declared.fields.FieldFault.{FieldFault}
 
 abbrev pub adopt_said : List (List ℕ) → Adopt
 adopt_said f = record {

@@ -7,12 +7,12 @@ use Rattle.gaz_ids.specs.Limits.{last_uprn}
 use Rattle.gaz_ids.specs.declared.status.Status.{Status}
 use Rattle.gaz_ids.specs.declared.status.Status.TheVariants.{Approved}
 use Rattle.gaz_addressable.specs.Objects.{is_text_or_none}
-use Rattle.gaz_records.specs.Days.{CivilDay, is_day_or_none, date_text, end_text, ends_by, is_day}
-use Rattle.gaz_records.specs.Days.{no_day}
-use Rattle.gaz_records.specs.Forms.{BlpuStatus, Date, EndDate, Opt, TextTo, first_bad, in_form}
-use Rattle.gaz_records.specs.Forms.{of_blpu, says, unless_bad}
+use Rattle.gaz_fields.specs.Days.{CivilDay, is_day_or_none, date_text, end_text, ends_by, is_day}
+use Rattle.gaz_fields.specs.Days.{no_day}
+use Rattle.gaz_fields.specs.Forms.{BlpuStatus, Date, EndDate, Opt, TextTo, first_bad, in_form}
+use Rattle.gaz_fields.specs.Forms.{of_blpu, says, unless_bad}
+use Rattle.gaz_fields.specs.declared.fields.FieldFault.{FieldFault}
 use Rattle.gaz_records.specs.Table.{behind_uprn, blpu_table, easting, northing, uprn}
-use Rattle.gaz_records.specs.declared.fields.FieldFault.{FieldFault}
 
 -- a property: its number and status, where it lies, what it is part of, its postcode and its dates
 pub record BlpuValue : Type 0 where

@@ -6,10 +6,10 @@ use Rattle.gaz_ids.specs.declared.lang.Lang.{Lang}
 use Rattle.gaz_ids.specs.declared.lang.Lang.TheVariants.{Eng}
 use Rattle.gaz_addressable.specs.Texts.{is_text}
 use Rattle.gaz_addressable.specs.Objects.{is_text_or_none}
-use Rattle.gaz_records.specs.Forms.{Language, Opt, TextTo, in_form, says}
+use Rattle.gaz_fields.specs.Forms.{Language, Opt, TextTo, in_form, says}
+use Rattle.gaz_fields.specs.declared.fields.FieldFault.{FieldFault}
 use Rattle.gaz_records.specs.Table.{descriptor_table, usrn}
 use Rattle.gaz_records.specs.Streets.{is_usrn}
-use Rattle.gaz_records.specs.declared.fields.FieldFault.{FieldFault}
 
 -- what a street is called in a language, and where it lies
 pub record DescriptorValue : Type 0 where

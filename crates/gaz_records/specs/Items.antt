@@ -1,6 +1,8 @@
 -- Items of all kinds: what fields say, and the row of an item.
 use Rattle.std.specs.Prelude.{◌≡◌, List, ℕ, Option, Some, None, Result, Ok, Err, Bool, true}
 use Rattle.gaz_rows.specs.Rows.{line_of, one_row}
+use Rattle.gaz_fields.specs.declared.fields.FieldFault.{FieldFault}
+use Rattle.gaz_fields.specs.declared.fields.FieldFault.TheVariants as fault
 use Rattle.gaz_records.specs.Streets.{is_street, read_street, street_texts}
 use Rattle.gaz_records.specs.Descriptors.{descriptor_texts, is_descriptor, read_descriptor}
 use Rattle.gaz_records.specs.Blpus.{blpu_texts, is_blpu, read_blpu}
@@ -9,8 +11,6 @@ use Rattle.gaz_records.specs.Lpis.{is_lpi, lpi_texts, read_lpi}
 use Rattle.gaz_records.specs.Releases.{is_release, read_release, release_texts}
 use Rattle.gaz_records.specs.Adopts.{adopt_texts, is_adopt, read_adopt}
 use Rattle.gaz_records.specs.Kinds.{is_entry_kind}
-use Rattle.gaz_records.specs.declared.fields.FieldFault.{FieldFault}
-use Rattle.gaz_records.specs.declared.fields.FieldFault.TheVariants as fault
 use Rattle.gaz_records.specs.declared.item.Item.{Item}
 use Rattle.gaz_records.specs.declared.item.Item.TheVariants as item
 use Rattle.gaz_records.specs.declared.item.Kind.{Kind}

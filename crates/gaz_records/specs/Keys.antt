@@ -5,8 +5,8 @@ use Rattle.std.specs.declared.cmp.Ordering.TheVariants.{Equal}
 use Rattle.std.specs.Ordering.{nat_cmp, ordering_then}
 use Rattle.std.specs.Cmp.{IsTotalOrder}
 use Rattle.gaz_ids.specs.Codes.{lang_text}
+use Rattle.gaz_fields.specs.Labels.{label_cmp}
 use Rattle.gaz_records.specs.Kinds.{number_of}
-use Rattle.gaz_records.specs.Labels.{label_cmp}
 use Rattle.gaz_records.specs.declared.item.Item.{Item}
 use Rattle.gaz_records.specs.declared.item.Item.TheVariants as item
 use Rattle.gaz_records.specs.declared.item.Kind.TheVariants as kind

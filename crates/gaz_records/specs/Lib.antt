@@ -1,8 +1,3 @@
-pub mod Appending
-pub mod Days
-pub mod Fields
-pub mod Labels
-pub mod Forms
 pub mod Kinds
 pub mod Table
 pub mod Streets

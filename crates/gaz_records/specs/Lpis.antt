@@ -8,15 +8,15 @@ use Rattle.gaz_ids.specs.declared.lang.Lang.TheVariants.{Eng}
 use Rattle.gaz_ids.specs.declared.status.Status.{Status}
 use Rattle.gaz_ids.specs.declared.status.Status.TheVariants.{Approved}
 use Rattle.gaz_addressable.specs.Objects.{ObjectValue, is_object, texts_of}
-use Rattle.gaz_records.specs.Days.{CivilDay, is_day_or_none, date_text, end_text, ends_by, is_day}
-use Rattle.gaz_records.specs.Days.{no_day}
-use Rattle.gaz_records.specs.Forms.{AddressableObject, Date, EndDate, LabelTo, Language, LpiStatus}
-use Rattle.gaz_records.specs.Forms.{Opt, in_form, says}
-use Rattle.gaz_records.specs.Labels.{is_label}
+use Rattle.gaz_fields.specs.Days.{CivilDay, is_day_or_none, date_text, end_text, ends_by, is_day}
+use Rattle.gaz_fields.specs.Days.{no_day}
+use Rattle.gaz_fields.specs.Forms.{AddressableObject, Date, EndDate, LabelTo, Language, LpiStatus}
+use Rattle.gaz_fields.specs.Forms.{Opt, in_form, no_object, says}
+use Rattle.gaz_fields.specs.Labels.{is_label}
+use Rattle.gaz_fields.specs.declared.fields.FieldFault.{FieldFault}
 use Rattle.gaz_records.specs.Table.{lpi_table, uprn, usrn}
 use Rattle.gaz_records.specs.Streets.{is_usrn}
 use Rattle.gaz_records.specs.Blpus.{is_uprn}
-use Rattle.gaz_records.specs.declared.fields.FieldFault.{FieldFault}
 
 -- an address of a property on a street: its status, its objects and its dates
 pub record LpiValue : Type 0 where
@@ -29,9 +29,6 @@ pub record LpiValue : Type 0 where
   pub primary : ObjectValue
   pub start : CivilDay
   pub end : Option CivilDay
-
-abbrev pub no_object : ObjectValue
-no_object = record { range = None; text = None }
 
 abbrev pub lpi_said : List (List ℕ) → LpiValue
 lpi_said f = record {

@@ -2,10 +2,10 @@
 use Rattle.std.specs.Prelude.{ℕ, ◌&&◌, nat_le, List, [], ◌∷◌, Result, Bool, decimal}
 use Rattle.std.specs.Option.{unwrap_or}
 use Rattle.gaz_ids.specs.Limits.{last_code, last_hop}
-use Rattle.gaz_records.specs.Forms.{in_form, says}
+use Rattle.gaz_fields.specs.Forms.{in_form, says}
+use Rattle.gaz_fields.specs.declared.fields.FieldFault.{FieldFault}
 use Rattle.gaz_records.specs.Table.{code, hop, release_table, uprn}
 use Rattle.gaz_records.specs.Blpus.{is_uprn}
-use Rattle.gaz_records.specs.declared.fields.FieldFault.{FieldFault}
 use Rattle.gaz_records.specs.declared.release.Release.{Release}
 
 abbrev pub release_said : List (List ℕ) → Release

@@ -1,27 +1,16 @@
 -- Keys as two numbers that compare as keys do.
 use Rattle.std.specs.Prelude.{◌≡◌, codes, ℕ, zero, suc, ◌+◌, ◌*◌, ◌/◌, ◌%◌, ◌<◌, ◌==◌}
-use Rattle.std.specs.Prelude.{if◌then◌else◌, Bool, true, List, [], ◌∷◌, ◌++◌, take, drop}
+use Rattle.std.specs.Prelude.{if◌then◌else◌, Bool, true, List, [], ◌∷◌, ◌++◌, take}
 use Rattle.gaz_ids.specs.declared.lang.Lang.{Lang}
 use Rattle.gaz_ids.specs.declared.lang.Lang.TheVariants.{Cym, Eng}
 use Rattle.std.specs.Hash as fed
 use Rattle.std.specs.Hash.{HashWrites}
+use Rattle.gaz_fields.specs.Labels.{before_zero, first_half, is_label, second_half, seven_bytes}
 use Rattle.gaz_records.specs.Keys.{kind_number, number_in}
 use Rattle.gaz_records.specs.Kinds.{number_of}
-use Rattle.gaz_records.specs.Labels.{before_zero, is_label, padded, word}
 use Rattle.gaz_records.specs.declared.item.Kind.TheVariants as kinds
 use Rattle.gaz_records.specs.declared.key.Key.{Key}
 use Rattle.gaz_records.specs.declared.key.Key.TheVariants as key
-
--- how many numbers seven bytes can write
-abbrev pub seven_bytes : ℕ
-seven_bytes = 72057594037927936
-
--- the first seven bytes of a label as one number, and the other seven
-abbrev pub first_half : List ℕ → ℕ
-first_half t = word 7 (padded 14 t)
-
-abbrev pub second_half : List ℕ → ℕ
-second_half t = word 7 (drop 7 (padded 14 t))
 
 -- what stands behind the kind in the first number
 abbrev pub behind_kind : Key → ℕ

@@ -2,11 +2,11 @@
 use Rattle.std.specs.Prelude.{ℕ, ◌&&◌, nat_le, List, [], ◌∷◌, Option, None, Result, Bool, decimal}
 use Rattle.std.specs.Option.{unwrap_or}
 use Rattle.gaz_ids.specs.Limits.{last_usrn}
-use Rattle.gaz_records.specs.Days.{CivilDay, is_day_or_none, date_text, end_text, ends_by, is_day}
-use Rattle.gaz_records.specs.Days.{no_day}
-use Rattle.gaz_records.specs.Forms.{Date, Digits, EndDate, Opt, in_form, says}
+use Rattle.gaz_fields.specs.Days.{CivilDay, is_day_or_none, date_text, end_text, ends_by, is_day}
+use Rattle.gaz_fields.specs.Days.{no_day}
+use Rattle.gaz_fields.specs.Forms.{Date, Digits, EndDate, Opt, in_form, says}
+use Rattle.gaz_fields.specs.declared.fields.FieldFault.{FieldFault}
 use Rattle.gaz_records.specs.Table.{street_table, usrn}
-use Rattle.gaz_records.specs.declared.fields.FieldFault.{FieldFault}
 use Rattle.gaz_records.specs.declared.street_type.StreetType.{StreetType}
 use Rattle.gaz_records.specs.declared.street_type.StreetType.TheVariants.{DesignatedName}
 use Rattle.gaz_records.specs.declared.street_type.StreetType.TheVariants.{Description}

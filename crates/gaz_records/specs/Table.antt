@@ -2,8 +2,8 @@
 -- its form.
 use Rattle.std.specs.Prelude.{List, [], ◌∷◌}
 use Rattle.gaz_ids.specs.Limits.{last_code, last_hop, last_uprn, last_usrn}
-use Rattle.gaz_records.specs.Forms.{Form, Digits, Language, BlpuStatus, LpiStatus, LabelTo, TextTo}
-use Rattle.gaz_records.specs.Forms.{Date, EndDate, AddressableObject, Opt}
+use Rattle.gaz_fields.specs.Forms.{Form, Digits, Language, BlpuStatus, LpiStatus, LabelTo, TextTo}
+use Rattle.gaz_fields.specs.Forms.{Date, EndDate, AddressableObject, Opt}
 
 abbrev pub usrn : Form
 usrn = Digits 8 1 last_usrn

@@ -2,13 +2,13 @@
 use Rattle.std.specs.Prelude.{ℕ, ◌&&◌, List, [], ◌∷◌, Option, None, Result, Bool, decimal}
 use Rattle.std.specs.Option.{unwrap_or}
 use Rattle.gaz_addressable.specs.Texts.{is_text}
-use Rattle.gaz_records.specs.Days.{CivilDay, is_day_or_none, date_text, end_text, ends_by, is_day}
-use Rattle.gaz_records.specs.Days.{no_day}
-use Rattle.gaz_records.specs.Forms.{Date, EndDate, LabelTo, Opt, TextTo, in_form, says}
-use Rattle.gaz_records.specs.Labels.{is_label}
+use Rattle.gaz_fields.specs.Days.{CivilDay, is_day_or_none, date_text, end_text, ends_by, is_day}
+use Rattle.gaz_fields.specs.Days.{no_day}
+use Rattle.gaz_fields.specs.Forms.{Date, EndDate, LabelTo, Opt, TextTo, in_form, says}
+use Rattle.gaz_fields.specs.Labels.{is_label}
+use Rattle.gaz_fields.specs.declared.fields.FieldFault.{FieldFault}
 use Rattle.gaz_records.specs.Table.{uprn, xref_table}
 use Rattle.gaz_records.specs.Blpus.{is_uprn}
-use Rattle.gaz_records.specs.declared.fields.FieldFault.{FieldFault}
 
 -- by what another source knows a property
 pub record XrefValue : Type 0 where

@@ -1,12 +1,10 @@
 ghost use Rattle.std.specs.Prelude.{◌≡◌, OnOk, true};
-ghost use Rattle.gaz_records.specs.Fields.{OrMemory};
+ghost use Rattle.gaz_fields.specs.Fields.{OrMemory};
+ghost use Rattle.gaz_fields.specs.Appending.{AddsLine, Grows};
 ghost use Rattle.gaz_records.specs.Adopts.{adopt_texts, is_adopt, read_adopt};
-ghost use Rattle.gaz_records.specs.Appending.{AddsLine, Grows};
 
 use crate::blpu::Blpu;
-use crate::fields::FieldFault;
-use crate::reading::Fields;
-use crate::row::{add_number, next_number};
+use gaz_fields::{FieldFault, Fields, add_number, next_number};
 use gaz_ids::{Code, Hop};
 use std::alloc::{AllocError, Global};
 

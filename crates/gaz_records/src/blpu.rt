@@ -1,14 +1,13 @@
-ghost use Rattle.std.specs.Prelude.{◌≡◌, ◌≤◌, OnOk, true};
-ghost use Rattle.gaz_records.specs.Fields.{OrMemory};
+ghost use Rattle.std.specs.Prelude.{◌≡◌, ◌≤◌, [], ◌∷◌, OnOk, true};
+ghost use Rattle.gaz_fields.specs.Fields.{OrMemory};
+ghost use Rattle.gaz_fields.specs.Appending.{AddsFields, AddsLine, Grows};
 ghost use Rattle.gaz_records.specs.Blpus.{blpu_texts, is_blpu, read_behind, read_blpu};
-ghost use Rattle.gaz_records.specs.Blpus.{texts_behind};
-ghost use Rattle.gaz_records.specs.Appending.{AddsFields, AddsLine, Grows};
+ghost use Rattle.gaz_records.specs.Blpus.{parent_text, texts_behind};
 
-use crate::day::Day;
-use crate::fields::FieldFault;
-use crate::reading::Fields;
-use crate::row::{add_number, next_dates, next_field, next_number, next_parent, next_text};
 use gaz_addressable::Text;
+use gaz_fields::{
+    Day, FieldFault, Fields, add_number, next_dates, next_field, next_number, next_text,
+};
 use gaz_ids::{Number, Status, Uprn};
 use std::alloc::{AllocError, Global};
 use std::marker::Model;
@@ -37,8 +36,8 @@ pub struct Blpu {
 
 impl Model for Blpu {
     ghost use Rattle.std.specs.Prelude.{◌≡◌, ◌&&◌, is_some, true};
-    ghost use Rattle.gaz_records.specs.Days.{ends_by};
-    ghost use Rattle.gaz_records.specs.Forms.{of_blpu};
+    ghost use Rattle.gaz_fields.specs.Days.{ends_by};
+    ghost use Rattle.gaz_fields.specs.Forms.{of_blpu};
     ghost use Rattle.gaz_records.specs.Blpus.{BlpuValue};
 
     ghost Value = { BlpuValue };
@@ -55,6 +54,17 @@ impl Model for Blpu {
     } };
 
     ghost invariant = { λ x. (is_some (of_blpu x.status) && ends_by x.start x.end) ≡ true };
+}
+
+// Adds a comma and the digits of a UPRN, if there is one.
+fn next_parent(out: &mut Vec<u8>, parent: Option<Uprn>) -> Result<(), AllocError>
+    ensures row { OnOk result (AddsFields out.old.items out.new.items (parent_text parent ∷ [])) }
+    ensures kept { Grows out.old.items out.new.items }
+{
+    match parent {
+        Some(uprn) => next_number(out, uprn.number()),
+        None => next_field(out, b""),
+    }
 }
 
 impl Blpu {

@@ -1,12 +1,10 @@
 ghost use Rattle.std.specs.Prelude.{◌≡◌, OnOk, true};
-ghost use Rattle.gaz_records.specs.Fields.{OrMemory};
+ghost use Rattle.gaz_fields.specs.Fields.{OrMemory};
+ghost use Rattle.gaz_fields.specs.Appending.{AddsLine, Grows};
 ghost use Rattle.gaz_records.specs.Descriptors.{descriptor_texts, is_descriptor, read_descriptor};
-ghost use Rattle.gaz_records.specs.Appending.{AddsLine, Grows};
 
-use crate::fields::FieldFault;
-use crate::reading::Fields;
-use crate::row::{add_number, next_field, next_text};
 use gaz_addressable::Text;
+use gaz_fields::{FieldFault, Fields, add_number, next_field, next_text};
 use gaz_ids::{Lang, Usrn};
 use std::alloc::{AllocError, Global};
 use std::marker::Model;

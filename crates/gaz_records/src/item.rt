@@ -1,20 +1,19 @@
 ghost use Rattle.std.specs.Prelude.{◌≡◌, ◌≤◌, ◌++◌, drop, IfOk, Ok, OnErr, OnOk, true};
 ghost use Rattle.csv.specs.Records.{fields_of};
-ghost use Rattle.gaz_records.specs.Fields.{OrMemory};
+ghost use Rattle.gaz_fields.specs.Fields.{OrMemory};
+ghost use Rattle.gaz_fields.specs.Appending.{Grows};
 ghost use Rattle.gaz_records.specs.Items.{is_entry, is_item, item_of_text, item_text, kind_of};
 ghost use Rattle.gaz_records.specs.Items.{read_item};
-ghost use Rattle.gaz_records.specs.Appending.{Grows};
 
 use crate::adopt::Adopt;
 use crate::blpu::Blpu;
 use crate::descriptor::Descriptor;
-use crate::fields::FieldFault;
 use crate::lpi::Lpi;
-use crate::reading::Fields;
 use crate::release::Release;
 use crate::street::Street;
 use crate::xref::Xref;
 use csv::ByteRecord;
+use gaz_fields::{FieldFault, Fields};
 use gaz_rows::read_row;
 use std::alloc::{AllocError, Global};
 
@@ -135,7 +134,7 @@ impl Item {
     }
 }
 
-#[tactic(auto, using(crate::proofs::Growing::growing))]
+#[tactic(auto, using(gaz_fields::proofs::Growing::growing))]
 // Adds the row of the item's fields. After want of memory a part of it may be there.
 fn add_row(item: &Item, out: &mut Vec<u8>) -> Result<(), AllocError>
     ensures row { OnOk result (out.new.items ≡ out.old.items ++ item_text item.now) }
@@ -152,7 +151,7 @@ fn add_row(item: &Item, out: &mut Vec<u8>) -> Result<(), AllocError>
     }
 }
 
-#[tactic(auto, using(crate::proofs::Growing::growing))]
+#[tactic(auto, using(gaz_fields::proofs::Growing::growing))]
 /// Adds the row of the item's fields as `csv` writes it, without a line end. After want of memory
 /// `out` is as it was.
 pub fn write_item(item: &Item, out: &mut Vec<u8>) -> Result<(), AllocError>

@@ -2,7 +2,7 @@ ghost use Rattle.std.specs.Prelude.{◌≡◌};
 ghost use Rattle.gaz_records.specs.Keys.{key_cmp, key_of};
 
 use crate::item::Item;
-use crate::label::RecordKey;
+use gaz_fields::RecordKey;
 use gaz_ids::{Lang, Uprn, Usrn};
 use std::cmp::Ordering;
 

@@ -2,7 +2,7 @@ ghost use Rattle.gaz_records.specs.Items.{ItemsReadBack, ReadsItems};
 ghost use Rattle.gaz_records.specs.Keys.{KeysAreOrdered};
 ghost use Rattle.gaz_records.specs.Kinds.{IdentifiersReadBack};
 ghost use Rattle.gaz_records.specs.SortKeys.{WorkedSortKeys};
-ghost use Rattle.gaz_records.specs.WorkedFields.{WorkedDates, WorkedFields};
+ghost use Rattle.gaz_records.specs.WorkedFields.{WorkedFields};
 
 /// An item reads back as the same item, from the texts of its fields and from its row.
 pub fn items_read_back()
@@ -29,8 +29,7 @@ pub fn worked_sort_keys()
     ensures { WorkedSortKeys }
 {}
 
-/// What dates, and the fields of a record, say on worked examples.
+/// What the fields of a record say on worked examples.
 pub fn worked_fields()
-    ensures dates { WorkedDates }
-    ensures fields { WorkedFields }
+    ensures { WorkedFields }
 {}

@@ -4,20 +4,13 @@
 
 mod adopt;
 mod blpu;
-mod day;
 mod descriptor;
-mod fields;
 mod item;
 mod key;
 mod kind;
-mod label;
 pub mod laws;
 mod lpi;
-mod reading;
-mod reading_codes;
-mod reading_texts;
 mod release;
-mod row;
 mod shared;
 mod sort_key;
 mod street;
@@ -26,12 +19,10 @@ mod xref;
 
 pub use adopt::Adopt;
 pub use blpu::{Blpu, Easting, Northing};
-pub use day::{Day, EndDay};
 pub use descriptor::Descriptor;
-pub use fields::FieldFault;
+pub use gaz_fields::{Day, EndDay, FieldFault, Label, RecordKey, Source};
 pub use item::{Item, Kind, item_of_text, item_text, read_item, write_item};
 pub use key::{Key, key_of};
-pub use label::{Label, RecordKey, Source};
 pub use lpi::Lpi;
 pub use release::Release;
 pub use shared::{SharedItem, item_in};

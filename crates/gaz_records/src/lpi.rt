@@ -1,14 +1,13 @@
-ghost use Rattle.std.specs.Prelude.{◌≡◌, OnOk, true};
-ghost use Rattle.gaz_records.specs.Fields.{OrMemory};
-ghost use Rattle.gaz_records.specs.Lpis.{is_lpi, lpi_texts, read_lpi};
-ghost use Rattle.gaz_records.specs.Appending.{AddsLine, Grows};
+ghost use Rattle.std.specs.Prelude.{◌≡◌, None, OnOk, true};
+ghost use Rattle.gaz_fields.specs.Fields.{OrMemory};
+ghost use Rattle.gaz_fields.specs.Appending.{AddsFields, AddsLine, Grows};
+ghost use Rattle.gaz_records.specs.Lpis.{is_lpi, lpi_texts, read_lpi, secondary_texts};
 
-use crate::day::{Day, EndDay};
-use crate::fields::FieldFault;
-use crate::label::RecordKey;
-use crate::reading::Fields;
-use crate::row::{add_field, next_dates, next_field, next_number, next_object, next_secondary};
 use gaz_addressable::Object;
+use gaz_fields::{
+    Day, EndDay, FieldFault, Fields, RecordKey, add_field, next_dates, next_field, next_number,
+    next_object,
+};
 use gaz_ids::{Lang, Status, Uprn, Usrn};
 use std::alloc::{AllocError, Global};
 use std::marker::Model;
@@ -35,7 +34,7 @@ const _: () = prove!(size_of::<Lpi>() == 128);
 
 impl Model for Lpi {
     ghost use Rattle.std.specs.Prelude.{◌≡◌, true};
-    ghost use Rattle.gaz_records.specs.Days.{ends_by};
+    ghost use Rattle.gaz_fields.specs.Days.{ends_by};
     ghost use Rattle.gaz_records.specs.Lpis.{LpiValue};
 
     ghost Value = { LpiValue };
@@ -53,6 +52,27 @@ impl Model for Lpi {
     } };
 
     ghost invariant = { λ x. ends_by x.start x.end ≡ true };
+}
+
+#[tactic(auto, using(gaz_fields::proofs::Growing::growing), unfolding(csv::specs::Writing::fields_text))]
+// Adds five empty fields, each behind a comma.
+fn next_blank(out: &mut Vec<u8>) -> Result<(), AllocError>
+    ensures row { OnOk result (AddsFields out.old.items out.new.items (secondary_texts None)) }
+    ensures kept { Grows out.old.items out.new.items }
+{
+    out.extend_from_slice(b",,,,,")
+}
+
+// Adds the five fields of an object, if there is one, each behind a comma.
+fn next_secondary(out: &mut Vec<u8>, object: &Option<Object>) -> Result<(), AllocError>
+    ensures row { OnOk result
+        (AddsFields out.old.items out.new.items (secondary_texts object.now)) }
+    ensures kept { Grows out.old.items out.new.items }
+{
+    match object {
+        Some(object) => next_object(out, object),
+        None => next_blank(out),
+    }
 }
 
 impl Lpi {

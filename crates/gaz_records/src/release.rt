@@ -1,10 +1,8 @@
 ghost use Rattle.std.specs.Prelude.{◌≡◌, OnOk, true};
+ghost use Rattle.gaz_fields.specs.Appending.{AddsLine, Grows};
 ghost use Rattle.gaz_records.specs.Releases.{is_release, read_release, release_texts};
-ghost use Rattle.gaz_records.specs.Appending.{AddsLine, Grows};
 
-use crate::fields::FieldFault;
-use crate::reading::Fields;
-use crate::row::{add_number, next_number};
+use gaz_fields::{FieldFault, Fields, add_number, next_number};
 use gaz_ids::{Code, Hop, Uprn};
 use std::alloc::AllocError;
 

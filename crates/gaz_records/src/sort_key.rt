@@ -4,10 +4,10 @@ ghost use Rattle.std.proofs.Common.{rules};
 ghost use Rattle.std.specs.Cmp.{partial_order_from_own_ties};
 ghost use Rattle.std.specs.Cmp.Rules.{comparing};
 ghost use Rattle.std.specs.Ordering.{as_partial_cmp, eq_by_cmp};
+ghost use Rattle.gaz_fields.specs.Labels.{seven_bytes};
 ghost use Rattle.gaz_records.specs.Keys.{key_cmp, kind_number, number_in};
 ghost use Rattle.gaz_records.specs.KeyTies.{keys_alike, keys_total};
-ghost use Rattle.gaz_records.specs.SortKeys.{has_label, high_of, lang_rank, low_of};
-ghost use Rattle.gaz_records.specs.SortKeys.{seven_bytes, written};
+ghost use Rattle.gaz_records.specs.SortKeys.{has_label, high_of, lang_rank, low_of, written};
 
 use crate::item::Kind;
 use crate::key::Key;

@@ -1,12 +1,9 @@
 ghost use Rattle.std.specs.Prelude.{◌≡◌, OnOk, true};
+ghost use Rattle.gaz_fields.specs.Appending.{AddsLine, Grows};
 ghost use Rattle.gaz_records.specs.Streets.{is_street, read_street, street_texts};
-ghost use Rattle.gaz_records.specs.Appending.{AddsLine, Grows};
 
-use crate::day::Day;
-use crate::fields::FieldFault;
-use crate::reading::Fields;
-use crate::row::{add_number, next_dates, next_number};
 use crate::street_type::StreetType;
+use gaz_fields::{Day, FieldFault, Fields, add_number, next_dates, next_number};
 use gaz_ids::Usrn;
 use std::alloc::AllocError;
 use std::marker::Model;
@@ -24,7 +21,7 @@ pub struct Street {
 
 impl Model for Street {
     ghost use Rattle.std.specs.Prelude.{◌≡◌, true};
-    ghost use Rattle.gaz_records.specs.Days.{ends_by};
+    ghost use Rattle.gaz_fields.specs.Days.{ends_by};
     ghost use Rattle.gaz_records.specs.Streets.{StreetValue, type_number};
 
     ghost Value = { StreetValue };

@@ -1,14 +1,12 @@
 ghost use Rattle.std.specs.Prelude.{◌≡◌, OnOk, true};
-ghost use Rattle.gaz_records.specs.Fields.{OrMemory};
+ghost use Rattle.gaz_fields.specs.Fields.{OrMemory};
+ghost use Rattle.gaz_fields.specs.Appending.{AddsLine, Grows};
 ghost use Rattle.gaz_records.specs.Xrefs.{is_xref, read_xref, xref_texts};
-ghost use Rattle.gaz_records.specs.Appending.{AddsLine, Grows};
 
-use crate::day::Day;
-use crate::fields::FieldFault;
-use crate::label::{RecordKey, Source};
-use crate::reading::Fields;
-use crate::row::{add_field, next_dates, next_field, next_number};
 use gaz_addressable::Text;
+use gaz_fields::{
+    Day, FieldFault, Fields, RecordKey, Source, add_field, next_dates, next_field, next_number,
+};
 use gaz_ids::Uprn;
 use std::alloc::{AllocError, Global};
 use std::marker::Model;
@@ -29,7 +27,7 @@ pub struct Xref {
 
 impl Model for Xref {
     ghost use Rattle.std.specs.Prelude.{◌≡◌, true};
-    ghost use Rattle.gaz_records.specs.Days.{ends_by};
+    ghost use Rattle.gaz_fields.specs.Days.{ends_by};
     ghost use Rattle.gaz_records.specs.Xrefs.{XrefValue};
 
     ghost Value = { XrefValue };

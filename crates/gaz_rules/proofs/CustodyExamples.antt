@@ -1,6 +1,6 @@
 -- What the rules on numbers that pass between custodians come to on worked examples.
 use Rattle.std.proofs.Common.{refl}
-use Rattle.gaz_rules.specs.CustodyExamples.{WorkedAdoptions, WorkedHolders, WorkedPassing, WorkedReleases}
+use Rattle.gaz_rules.specs.CustodyExamples.{WorkedAdoptions, WorkedBreaches, WorkedHolders, WorkedPassing, WorkedReleases}
 use Rattle.gaz_rules.proofs.Worked.{views}
 
 on_releases : WorkedReleases
@@ -45,9 +45,28 @@ on_adoptions = record {
   used = simp views;
 }
 
+on_breaches : WorkedBreaches
+on_breaches = record {
+  released = simp views;
+  released_too_late = simp views;
+  released_of_no_block = simp views;
+  adopted = simp views;
+  adopted_unreleased = refl;
+  adopted_twice = simp views;
+  inserted = simp views;
+  inserted_again = simp views;
+  updated = simp views;
+  updated_nothing = simp views;
+  moved = simp views;
+  deleted = simp views;
+  deleted_nothing = simp views;
+  deleted_what_stays = simp views;
+}
+
 pub on_passing : WorkedPassing
 on_passing = record {
   on_releases = on_releases;
   on_holders = on_holders;
   on_adoptions = on_adoptions;
+  on_breaches = on_breaches;
 }

@@ -1,14 +1,17 @@
 -- Worked examples of the rules on numbers that pass between custodians, computed from the
 -- definitions.
-use Rattle.std.specs.Prelude.{◌≡◌, ℕ, List, [], ◌∷◌, Option, Some, None}
+use Rattle.std.specs.Prelude.{◌≡◌, ℕ, List, [], ◌∷◌, Option, Some, None, codes}
 use Rattle.gaz_records.specs.declared.item.Item.{Item}
 use Rattle.gaz_records.specs.declared.item.Item.TheVariants as item
+use Rattle.gaz_records.specs.declared.key.Key.TheVariants as key
 use Rattle.gaz_changefile.specs.declared.action.Action.TheVariants.{Insert, Update, Delete}
 use Rattle.gaz_views.specs.CustodyExamples.{alone}
-use Rattle.gaz_views.specs.Examples.{blpu}
+use Rattle.gaz_views.specs.Examples.{blpu, council_tax, one_street, street}
 use Rattle.gaz_views.specs.View.{View, empty_view, with_adoption, with_item, with_release}
-use Rattle.gaz_rules.specs.Examples.{broken, own}
-use Rattle.gaz_rules.specs.Rules.{first_broken, record_rules}
+use Rattle.gaz_rules.specs.CustodyRules.{adopt_breach, release_breach}
+use Rattle.gaz_rules.specs.Examples.{broken, one_reference, own}
+use Rattle.gaz_rules.specs.Rules.{delete_breach, first_broken, insert_breach, record_rules}
+use Rattle.gaz_rules.specs.Rules.{update_breach}
 
 -- number 1001 given up to 1002, and property 500, of none of the own blocks, taken from 1002
 abbrev pub release : (uprn hop : ℕ) → Item
@@ -79,7 +82,27 @@ pub record WorkedAdoptions : Type 0 where
   pub after_an_earlier_hop : adopts (gives 1001 4 ∷ []) (with_500 3) (adoption 4) ≡ None
   pub used : adopts (gives 1001 1 ∷ []) (with_item empty_view (item.Blpu alone)) (adoption 1) ≡ None
 
+-- the least rule that each kind of change breaks, as the functions ask it that judge
+pub record WorkedBreaches : Type 0 where
+  pub released : release_breach own with_1001 1001 1 ≡ None
+  pub released_too_late : release_breach own with_1001 1001 2 ≡ Some 40
+  pub released_of_no_block : release_breach own empty_view 999 2 ≡ Some 20
+  pub adopted : adopt_breach 1001 empty_view (gives 1001 1 ∷ []) 500 1002 1 ≡ None
+  pub adopted_unreleased : adopt_breach 1001 empty_view [] 500 1002 1 ≡ Some 41
+  pub adopted_twice : adopt_breach 1001 (with_500 1) (gives 1001 1 ∷ []) 500 1002 1 ≡ Some 42
+  pub inserted : insert_breach one_street (key.Street 102) ≡ None
+  pub inserted_again : insert_breach one_street (key.Street 101) ≡ Some 21
+  pub updated : update_breach one_street (key.Street 101) (street 101) ≡ None
+  pub updated_nothing : update_breach one_street (key.Street 102) (street 102) ≡ Some 22
+  pub moved : update_breach one_reference (key.Xref (codes "X1")) (council_tax (codes "X1") 1002)
+      ≡ Some 24
+  pub deleted : delete_breach one_reference (key.Xref (codes "X1"))
+      (council_tax (codes "X1") 1001) ≡ None
+  pub deleted_nothing : delete_breach one_street (key.Street 102) (street 102) ≡ Some 22
+  pub deleted_what_stays : delete_breach one_street (key.Street 101) (street 101) ≡ Some 23
+
 pub record WorkedPassing : Type 0 where
   pub on_releases : WorkedReleases
   pub on_holders : WorkedHolders
   pub on_adoptions : WorkedAdoptions
+  pub on_breaches : WorkedBreaches

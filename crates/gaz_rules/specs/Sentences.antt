@@ -4,8 +4,8 @@ use Rattle.std.specs.List.{All}
 use Rattle.std.specs.FinMap as fin
 use Rattle.gaz_ids.specs.declared.lang.Lang.{Lang}
 use Rattle.gaz_ids.specs.declared.status.Status.TheVariants.{Approved, Historical}
+use Rattle.gaz_fields.specs.Days.{CivilDay}
 use Rattle.gaz_records.specs.Blpus.{BlpuValue}
-use Rattle.gaz_records.specs.Days.{CivilDay}
 use Rattle.gaz_records.specs.Lpis.{LpiValue}
 use Rattle.gaz_records.specs.Streets.{StreetValue}
 use Rattle.gaz_records.specs.declared.item.Item.{Item}

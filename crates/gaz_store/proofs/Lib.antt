@@ -2,6 +2,7 @@ pub mod Whole
 pub mod Whose
 pub mod Turning
 pub mod PassedOn
+pub mod Readying
 pub mod Lawful
 pub mod Entering
 pub mod Opens

@@ -29,10 +29,10 @@ use Rattle.gaz_loaded.specs.Telling as listed
 use Rattle.gaz_loaded.specs.Telling.{AreAbove, AreNext, last_of, told}
 use Rattle.gaz_loaded.specs.declared.listed.Life.{Life}
 use Rattle.gaz_calls.specs.Asking.{AsksTables}
-use Rattle.gaz_calls.specs.Lives.{IsRowBehind, SaysLife, TellsLives, is_items}
-use Rattle.gaz_calls.specs.Volumes.{TellsVolumes}
+use Rattle.gaz_answers.specs.Lives.{IsRowBehind, SaysLife, TellsLives, is_items}
+use Rattle.gaz_answers.specs.Volumes.{TellsVolumes}
 use Rattle.gaz_calls.specs.declared.tables.Tables.{Tables}
-use Rattle.gaz_calls.proofs.Taken.{empty_is}
+use Rattle.gaz_answers.proofs.Taken.{empty_is}
 use Rattle.gaz_store.specs.Listing.{TablesRest, lives_kept, passages_kept, told_in, told_with}
 use Rattle.gaz_store.specs.Store.{seen_in}
 use Rattle.gaz_store.specs.declared.progress.Judging.{Judging}

@@ -30,10 +30,9 @@ use Rattle.gaz_kept.specs.NewestPassages.{HasPassage, born_of, custody_of}
 use Rattle.gaz_kept.specs.Versions.{histories_in}
 use Rattle.gaz_kept.specs.declared.passages.Passed.{Passed as Newest}
 use Rattle.gaz_calls.specs.Passing.{TellsPassed, passages_of}
-use Rattle.gaz_store.specs.Beside.{Makes, Turns}
-use Rattle.gaz_store.specs.Beside.{IsToldSince}
+use Rattle.gaz_store.specs.Beside.{IsToldSince, Makes, Turns, with_changes}
 use Rattle.gaz_store.specs.declared.judgement.Judgement.{Judgement}
-use Rattle.gaz_store.proofs.Turning.{told_put, with_changes}
+use Rattle.gaz_store.proofs.Turning.{told_put}
 
 -- ---- what is told before a number is passed on
 

@@ -18,15 +18,15 @@ use Rattle.gaz_views.specs.View.{View, empty_view, was_used, with_item, without_
 use Rattle.gaz_keeper.specs.Keeper.{IsAtHand}
 use Rattle.gaz_views.specs.Lawful.{IsLawfulView}
 use Rattle.gaz_views.specs.Words.{approved_of, approved_on, entries, first_of, has_children, is_approved_on, is_child_of, names, property_of, tied}
-use Rattle.gaz_overlay.specs.Changes.{Changes, Touched, is_touched, stood_in, was_used_in, with_put, with_put_first, with_taken, with_touched}
+use Rattle.gaz_overlay.specs.Changes.{Changes, Touched, is_touched, stood_in, was_used_in, with_put, with_taken, with_touched}
 use Rattle.gaz_overlay.specs.Laid.{any_untouched, laid, untouched}
 use Rattle.gaz_overlay.proofs.Touching.{none_there, unused}
 use Rattle.gaz_ids.specs.declared.lang.Lang.{Lang}
 use Rattle.sqlite_rules.specs.Lists.{Has}
 use Rattle.std.specs.List.{list_any}
 use Rattle.gaz_kept.proofs.Rising.{entry_is}
-use Rattle.gaz_calls.proofs.StreetRows.{any_same}
-use Rattle.gaz_calls.specs.Streets.{is_left_on, is_left_part, is_left_tied, leaves}
+use Rattle.gaz_answers.proofs.StreetRows.{any_same}
+use Rattle.gaz_answers.specs.Streets.{is_left_on, is_left_part, is_left_tied, leaves}
 use Rattle.gaz_overlay.specs.Over.{KeyView, Make}
 use Rattle.gaz_overlay.specs.Questions.{LaidAnswers, both, keys_with, property_at}
 use Rattle.gaz_overlay.specs.Rows.{AreTold, HasCurrent, HistoryRow}
@@ -43,13 +43,10 @@ use Rattle.gaz_kept.specs.Kept.{IsKept}
 use Rattle.gaz_kept.specs.LastViews.{last_in}
 use Rattle.gaz_kept.specs.Newest.{TellsStood}
 use Rattle.gaz_kept.specs.Versions.{histories_in}
-use Rattle.gaz_store.specs.Beside.{Makes, Turns}
+use Rattle.gaz_store.specs.Beside.{Makes, Turns, with_changes}
 use Rattle.gaz_store.specs.Store.{IsUnderWay, view_made}
 use Rattle.gaz_store.specs.declared.judgement.Judgement.{Judgement}
 use Rattle.gaz_kept.proofs.LawfulViews.{view_lawful}
-
-abbrev pub with_changes : Judgement → Changes → Judgement
-with_changes j c = record { code = j.code; changes = c; any_passed = j.any_passed }
 
 -- ---- what stood at a key
 
@@ -109,14 +106,6 @@ module _ (db : Database) (kept : IsKept db) (j : Judgement) where
 
   pub put_turns : (i : Item) → is_entry i ≡ true → is_touched j.changes (key_of i) ≡ true → Turns db j (with_changes j (with_put j.changes i)) (λ w. with_item w i)
   put_turns i entry noted w makes = record { made = changes_make.put last j.changes w makes.made i entry noted; told = told_put rows j.changes i makes.told; passed = makes.passed; known = makes.known }
-
-  pub put_first_turns : (i : Item) (stood : Stood) → is_entry i ≡ true → is_touched j.changes (key_of i) ≡ false → TellsStood rows last (key_of i) stood (map.get last.items (key_of i)) → Turns db j (with_changes j (with_put_first j.changes stood i)) (λ w. with_item w i)
-  put_first_turns i stood entry fresh tells w makes = record {
-    made = changes_make.put_first last j.changes w (view_lawful db kept j.code (reached_in (rows_of db received) j.code)) makes.made i stood entry fresh tells.is_stood;
-    told = told_put rows (with_touched j.changes (key_of i) stood None) i (told_touched rows j.changes (key_of i) stood None makes.told tells.current);
-    passed = makes.passed;
-    known = makes.known;
-  }
 
   pub taken_turns : (k : Key) → is_touched j.changes k ≡ true → Turns db j (with_changes j (with_taken j.changes k)) (λ w. without_key w k)
   taken_turns k noted w makes = record { made = changes_make.taken last j.changes w makes.made k noted; told = record { told = makes.told.told }; passed = makes.passed; known = makes.known }

@@ -2,13 +2,11 @@
 ghost use Rattle.std.specs.Prelude.{◌≡◌, true, false, None, IsSome, OnErr, OnOk};
 ghost use Rattle.gaz_overlay.specs.Changes.{is_touched, no_changes};
 ghost use Rattle.gaz_records.specs.Items.{is_entry};
-ghost use Rattle.gaz_records.specs.Keys.{key_of};
 ghost use Rattle.gaz_views.specs.Numbered.{as_blpu, with_adopted};
 ghost use Rattle.gaz_views.specs.View.{with_item, with_release, without_key};
 ghost use Rattle.gaz_calls.specs.Asking.{AsksTables};
 ghost use Rattle.gaz_calls.specs.Passing.{MayKnow, knows_none};
-ghost use Rattle.gaz_store.specs.Beside.{Turns};
-ghost use Rattle.gaz_store.specs.Beside.{IsToldSince};
+ghost use Rattle.gaz_store.specs.Beside.{IsToldSince, Readies, Turns};
 
 use gaz_calls::Tables;
 use gaz_ids::{Code, Hop, Uprn};
@@ -103,22 +101,19 @@ impl Judgement {
         self.touch_first(tables, key)
     }
 
-    // Sets an item, an entry, at a key that isn't touched yet: the one that stood there isn't read.
-    fn put_first<S: Alter>(
-        &mut self,
-        tables: &mut Tables<S>,
-        key: &Key,
-        item: SharedItem,
-    ) -> Result<(), ShelfFault>
-        requires own { key.now ≡ key_of item }
-        requires fresh { is_touched self.old.changes (key_of item) ≡ false }
-        requires entry { is_entry item ≡ true }
+    // Touches a key, where it isn't touched yet, at which an item is put next or whose number is
+    // passed on next. The item that stood there, which that hides, isn't read.
+    fn hide<S: Alter>(&mut self, tables: &mut Tables<S>, key: &Key) -> Result<(), ShelfFault>
         ensures asks { AsksTables tables.old tables.new result
-            (λ db _. Turns db self.old self.new (λ w. with_item w item)) }
+            (λ db _. Readies db self.old self.new key.now) }
+        ensures touched { OnOk result (is_touched self.new.changes key.now ≡ true) }
         ensures code { self.new.code ≡ self.old.code }
     {
+        if self.changes.is_touched(key) {
+            return Ok(());
+        }
         let stood = tables.stands(self.code, key)?;
-        match self.changes.put_first(stood, item) {
+        match self.changes.touch(key, stood, None) {
             Ok(()) => Ok(()),
             Err(_) => Err(ShelfFault::Memory),
         }
@@ -136,9 +131,7 @@ impl Judgement {
         ensures code { self.new.code ≡ self.old.code }
     {
         let key = key_of(&item);
-        if !self.changes.is_touched(&key) {
-            return self.put_first(tables, &key, item);
-        }
+        self.hide(tables, &key)?;
         match self.changes.put(item) {
             Ok(()) => Ok(()),
             Err(_) => Err(ShelfFault::Memory),
@@ -174,7 +167,7 @@ impl Judgement {
             (λ db _. Turns db self.old self.new (λ w. with_release w uprn to hop)) }
         ensures code { self.new.code ≡ self.old.code }
     {
-        self.touch(tables, &Key::Blpu(uprn))?;
+        self.hide(tables, &Key::Blpu(uprn))?;
         let since = match self.since(tables, uprn) {
             Ok(since) => since,
             Err(fault) => return Err(fault),
@@ -202,7 +195,7 @@ impl Judgement {
         let Key::Blpu(uprn) = key else {
             return Err(ShelfFault::Memory);
         };
-        self.touch(tables, &key)?;
+        self.hide(tables, &key)?;
         let since = match self.since(tables, uprn) {
             Ok(since) => since,
             Err(fault) => return Err(fault),

@@ -3,8 +3,8 @@ use Rattle.std.specs.Str.{chars, is_utf8}
 use Rattle.csv.proofs.OnLiterals.{csv_on_literals}
 use Rattle.csv.specs.Records.{field_at}
 use Rattle.gaz_ids.specs.Numbers.{read_id}
-use Rattle.gaz_records.specs.Days.{date_of}
-use Rattle.gaz_records.specs.Forms.{says}
+use Rattle.gaz_fields.specs.Days.{date_of}
+use Rattle.gaz_fields.specs.Forms.{says}
 use Rattle.gaz_addressable.specs.Objects.{object_of}
 use Rattle.gaz_addressable.specs.Texts.{char_count, is_plain}
 use Rattle.gaz_records.specs.Blpus.{read_blpu}

@@ -4,8 +4,8 @@ use Rattle.std.specs.Str.{chars, is_utf8}
 use Rattle.csv.proofs.OnLiterals.{csv_on_literals}
 use Rattle.csv.specs.Records.{field_at}
 use Rattle.gaz_ids.specs.Numbers.{read_id}
-use Rattle.gaz_records.specs.Days.{date_of}
-use Rattle.gaz_records.specs.Forms.{says}
+use Rattle.gaz_fields.specs.Days.{date_of}
+use Rattle.gaz_fields.specs.Forms.{says}
 use Rattle.gaz_records.specs.Streets.{read_street}
 use Rattle.gaz_changefile.specs.Contents.{contents_of}
 use Rattle.gaz_changefile.specs.Reading.{reading}

@@ -1,4 +1,4 @@
-use Rattle.gaz_ledger.proofs.TieFacts.{ties_set}
+use Rattle.gaz_standing.proofs.TieFacts.{ties_set}
 use Rattle.gaz_ledger.proofs.changes.change.Goals as goal
 
 pub returns-in-Ok-clause-ties : goal.returns-in-Ok-clause-ties

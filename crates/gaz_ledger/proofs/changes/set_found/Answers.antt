@@ -1,6 +1,6 @@
 use Rattle.std.proofs.Common.{sym, subst}
+use Rattle.gaz_standing.specs.KeyHistories.{KeyHistories}
 use Rattle.gaz_ledger.proofs.Ledgers.{finds_more, finds_set}
-use Rattle.gaz_ledger.specs.KeyHistories.{KeyHistories}
 use Rattle.gaz_ledger.specs.Ledgers.{Finds}
 use Rattle.gaz_ledger.proofs.changes.set_found.Goals as goal
 

@@ -1,8 +1,8 @@
 use Rattle.std.proofs.Common.{◌+◌, ◌∙◌, arith}
-use Rattle.gaz_ledger.proofs.KeyHistories.{past_view}
+use Rattle.gaz_standing.proofs.KeyHistories.{past_view}
+use Rattle.gaz_standing.proofs.Versions.{until_before}
+use Rattle.gaz_standing.specs.KeyHistories.{versions_at}
 use Rattle.gaz_ledger.proofs.Ledgers.{ledger_cut}
-use Rattle.gaz_ledger.proofs.Versions.{until_before}
-use Rattle.gaz_ledger.specs.KeyHistories.{versions_at}
 use Rattle.gaz_ledger.proofs.changes.undo_all.Goals as goal
 
 pub loop-key-preserved : goal.loop-key-preserved

@@ -1,6 +1,6 @@
 -- What is left to undo is where the ledger's keys were touched, and the views so far stay.
 use Rattle.std.proofs.Common.{◌≡◌, ◌≤◌, ℕ, vec_len}
-use Rattle.gaz_ledger.specs.KeyHistories.{view_at}
+use Rattle.gaz_standing.specs.KeyHistories.{view_at}
 use Rattle.gaz_ledger.specs.Ledgers.{IsLedger}
 use Rattle.gaz_ledger.proofs.changes.undo_all.Given as goal
 

@@ -1,6 +1,6 @@
 use Rattle.std.proofs.Common.{◌+◌, ◌∙◌, arith}
+use Rattle.gaz_standing.proofs.Versions.{until_before}
 use Rattle.gaz_ledger.proofs.Becoming.{passing_cut, past_after}
-use Rattle.gaz_ledger.proofs.Versions.{until_before}
 use Rattle.gaz_ledger.specs.Custodies.{passed_at}
 use Rattle.gaz_ledger.proofs.passage.undo_passing.Goals as goal
 

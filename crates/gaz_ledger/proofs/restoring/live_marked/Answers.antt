@@ -1,8 +1,8 @@
 use Rattle.std.proofs.Common.{◌∙◌, ap, sym, subst}
+use Rattle.gaz_standing.specs.Indexes.{has_mark}
+use Rattle.gaz_standing.specs.KeyHistories.{KeyHistories}
 use Rattle.gaz_ledger.proofs.Ledgers.{finds_more}
 use Rattle.gaz_ledger.proofs.Lives.{finds_lived}
-use Rattle.gaz_ledger.specs.Indexes.{has_mark}
-use Rattle.gaz_ledger.specs.KeyHistories.{KeyHistories}
 use Rattle.gaz_ledger.specs.Ledgers.{Finds}
 use Rattle.gaz_ledger.proofs.restoring.live_marked.Goals as goal
 

@@ -1,6 +1,6 @@
 use Rattle.std.proofs.Common.{◌∙◌}
 use Rattle.gaz_records.proofs.KeyOrder.{keys_same}
-use Rattle.gaz_ledger.proofs.KeySets.{added}
+use Rattle.gaz_standing.proofs.KeySets.{added}
 use Rattle.gaz_overlay.proofs.Questions.{added_next}
 use Rattle.gaz_overlay.proofs.merging.add_all.Goals as goal
 

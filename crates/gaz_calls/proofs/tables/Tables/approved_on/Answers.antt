@@ -2,7 +2,7 @@ use Rattle.std.proofs.Common.{◌∙◌}
 use Rattle.gaz_kept.specs.LastViews.{last_in}
 use Rattle.gaz_views.specs.Words.{entries, is_approved_on}
 use Rattle.gaz_calls.proofs.Answered.{asked_as}
-use Rattle.gaz_calls.proofs.StreetRows.{all_left}
+use Rattle.gaz_answers.proofs.StreetRows.{all_left}
 use Rattle.gaz_calls.proofs.tables.Tables.approved_on.Goals as goal
 
 pub returns : goal.returns

@@ -5,7 +5,7 @@ use Rattle.gaz_tables.specs.Versions.{IsHolding, body_shown, id_place}
 use Rattle.gaz_tables.specs.Tables.{rows_of}
 use Rattle.gaz_calls.proofs.Answered.{answered_ok}
 use Rattle.gaz_calls.proofs.Composing.{failed}
-use Rattle.gaz_calls.proofs.PageRows.{all_taken}
+use Rattle.gaz_answers.proofs.PageRows.{all_taken}
 use Rattle.gaz_calls.proofs.tables.Tables.holding_all.Goals as goal
 
 pub returns-then-len : goal.returns-then-len

@@ -1,10 +1,10 @@
 use Rattle.std.proofs.Common.{subst, sym}
 use Rattle.std.specs.Prelude.{option_map}
 use Rattle.gaz_kept.specs.LastViews.{last_in}
-use Rattle.gaz_calls.specs.Streets.{AreBehind, IsStep, is_left_on}
+use Rattle.gaz_answers.specs.Streets.{AreBehind, IsStep, is_left_on}
 use Rattle.gaz_calls.proofs.Answered.{asked_fault, asked_step}
 use Rattle.gaz_calls.proofs.Composing.{asked_nothing, failed}
-use Rattle.gaz_calls.proofs.StreetRows.{walk_begins}
+use Rattle.gaz_answers.proofs.StreetRows.{walk_begins}
 use Rattle.gaz_calls.proofs.tables.Tables.left_on.Goals as goal
 
 pub pages-init : goal.pages-init

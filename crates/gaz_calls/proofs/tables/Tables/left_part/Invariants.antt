@@ -3,7 +3,7 @@ use Rattle.std.specs.Prelude.{option_map}
 use Rattle.std.specs.String.{string_bytes}
 use Rattle.gaz_kept.specs.LastViews.{last_in}
 use Rattle.gaz_calls.specs.Asking.{AsksTables}
-use Rattle.gaz_calls.specs.Streets.{AreBehind, is_left_part}
+use Rattle.gaz_answers.specs.Streets.{AreBehind, is_left_part}
 use Rattle.gaz_calls.proofs.tables.Tables.left_part.Given as goal
 
 -- what is asked for comes behind the id at which the next page begins

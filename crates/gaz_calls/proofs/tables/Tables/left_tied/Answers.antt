@@ -4,9 +4,9 @@ use Rattle.std.specs.List.{list_any}
 use Rattle.gaz_records.specs.declared.item.Kind.TheVariants as kind
 use Rattle.gaz_views.specs.Words.{entries}
 use Rattle.gaz_kept.specs.LastViews.{last_in}
-use Rattle.gaz_calls.specs.Streets.{is_left_part}
+use Rattle.gaz_answers.specs.Streets.{is_left_part}
 use Rattle.gaz_calls.proofs.Answered.{answered_ok, asked_more}
-use Rattle.gaz_calls.proofs.StreetRows.{tied_parts}
+use Rattle.gaz_answers.proofs.StreetRows.{tied_parts}
 use Rattle.gaz_calls.proofs.tables.Tables.left_tied.Goals as goal
 
 pub returns-then-by_lpi : goal.returns-then-by_lpi

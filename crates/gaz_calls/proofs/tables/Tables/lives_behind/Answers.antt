@@ -4,10 +4,10 @@ use mir.Val.{SFits}
 use Rattle.gaz_tables.specs.Schema.{version2}
 use Rattle.gaz_tables.specs.Tables.{rows_of}
 use Rattle.gaz_calls.specs.Asking.{AsksTables}
-use Rattle.gaz_calls.specs.Lives.{GoesOn, TellsPage}
+use Rattle.gaz_answers.specs.Lives.{GoesOn, TellsPage}
 use Rattle.gaz_calls.proofs.Answered.{asked_fault, asked_step}
 use Rattle.gaz_calls.proofs.Composing.{asked_nothing, failed}
-use Rattle.gaz_calls.proofs.LivesTold.{goes_further, goes_nowhere, told_from}
+use Rattle.gaz_answers.proofs.LivesTold.{goes_further, goes_nowhere, told_from}
 use Rattle.gaz_calls.proofs.tables.Tables.lives_behind.Goals as goal
 
 pub pages-init : goal.pages-init

@@ -1,7 +1,7 @@
 use Rattle.std.proofs.Common.{subst}
-use Rattle.gaz_calls.specs.Lives.{IsLifePage}
+use Rattle.gaz_answers.specs.Lives.{IsLifePage}
 use Rattle.gaz_calls.proofs.Answered.{answered_ok}
-use Rattle.gaz_calls.proofs.LivesTold.{page_tells}
+use Rattle.gaz_answers.proofs.LivesTold.{page_tells}
 use Rattle.gaz_calls.proofs.tables.Tables.lives_step.Goals as goal
 
 pub returns-in-Ok-clause-asks : goal.returns-in-Ok-clause-asks

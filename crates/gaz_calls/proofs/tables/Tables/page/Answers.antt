@@ -3,7 +3,7 @@ use Rattle.gaz_keeper.specs.Board.{view_after}
 use Rattle.gaz_kept.specs.Contents.{board_of}
 use Rattle.gaz_calls.proofs.Answered.{asked_as, failed_at_once}
 use Rattle.gaz_calls.proofs.Composing.{asked_nothing}
-use Rattle.gaz_calls.proofs.PageRows.{not_reached, page_of_none}
+use Rattle.gaz_answers.proofs.PageRows.{not_reached, page_of_none}
 use Rattle.gaz_calls.proofs.tables.Tables.page.Goals as goal
 
 pub returns-then-volume-gt-LAST_VOLUME : goal.returns-then-volume-gt-LAST_VOLUME

@@ -1,7 +1,7 @@
 use Rattle.std.proofs.Common.{subst}
-use Rattle.gaz_calls.specs.Paging.{SayItems}
+use Rattle.gaz_answers.specs.Paging.{SayItems}
 use Rattle.gaz_calls.proofs.Answered.{answered_ok}
-use Rattle.gaz_calls.proofs.PageRows.{page_on_board}
+use Rattle.gaz_answers.proofs.PageRows.{page_on_board}
 use Rattle.gaz_calls.proofs.tables.Tables.page_behind.Goals as goal
 
 pub returns-in-Ok : goal.returns-in-Ok

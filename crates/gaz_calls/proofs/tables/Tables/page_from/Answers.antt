@@ -3,10 +3,10 @@ use Rattle.std.specs.Prelude.{option_map}
 use Rattle.std.specs.String.{string_bytes}
 use Rattle.gaz_keeper.specs.Board.{view_after}
 use Rattle.gaz_kept.specs.Contents.{board_of}
-use Rattle.gaz_calls.specs.Paging.{IsPageFrom}
+use Rattle.gaz_answers.specs.Paging.{IsPageFrom}
 use Rattle.gaz_calls.proofs.Answered.{asked_as}
 use Rattle.gaz_calls.proofs.Composing.{asked_nothing}
-use Rattle.gaz_calls.proofs.PageRows.{page_nothing}
+use Rattle.gaz_answers.proofs.PageRows.{page_nothing}
 use Rattle.gaz_calls.proofs.tables.Tables.page_from.Goals as goal
 
 pub returns-in-Some : goal.returns-in-Some

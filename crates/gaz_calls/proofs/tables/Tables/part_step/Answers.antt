@@ -1,8 +1,8 @@
 use Rattle.std.proofs.Common.{subst}
 use Rattle.std.specs.Prelude.{option_map}
-use Rattle.gaz_calls.specs.Streets.{IsStepOf, names_left}
+use Rattle.gaz_answers.specs.Streets.{IsStepOf, names_left}
 use Rattle.gaz_calls.proofs.Answered.{answered_ok}
-use Rattle.gaz_calls.proofs.StreetRows.{parts_told}
+use Rattle.gaz_answers.proofs.StreetRows.{parts_told}
 use Rattle.gaz_calls.proofs.tables.Tables.part_step.Goals as goal
 
 pub returns-in-Ok : goal.returns-in-Ok

@@ -1,5 +1,5 @@
 use Rattle.std.proofs.Common.{subst, sym}
-use Rattle.gaz_calls.specs.Passages.{IsStartOf, SayPassages}
+use Rattle.gaz_answers.specs.Passages.{IsStartOf, SayPassages}
 use Rattle.gaz_calls.proofs.Answered.{answered_ok}
 use Rattle.gaz_calls.proofs.PassagesTold.{passages_told}
 use Rattle.gaz_calls.proofs.tables.Tables.passages_behind.Goals as goal

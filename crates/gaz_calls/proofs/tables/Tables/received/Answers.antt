@@ -2,8 +2,8 @@ use Rattle.std.proofs.Common.{subst, IfOk}
 use Rattle.gaz_tables.specs.Receiveds.{FindsFile}
 use Rattle.gaz_tables.specs.Schema.{received}
 use Rattle.gaz_tables.specs.Tables.{rows_of}
-use Rattle.gaz_calls.specs.Answers.{SaysBytes}
-use Rattle.gaz_calls.proofs.Bytes.{bytes_told}
+use Rattle.gaz_answers.specs.Answers.{SaysBytes}
+use Rattle.gaz_answers.proofs.Bytes.{bytes_told}
 use Rattle.gaz_calls.proofs.Composing.{answered}
 use Rattle.gaz_kept.proofs.Stands.{are_files}
 use Rattle.gaz_calls.proofs.tables.Tables.received.Goals as goal

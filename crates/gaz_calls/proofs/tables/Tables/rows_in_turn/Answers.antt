@@ -4,7 +4,7 @@ use mir.Val.{SFits}
 use Rattle.gaz_tables.specs.Rowids.{FindsInTurn}
 use Rattle.gaz_tables.specs.Schema.{version2}
 use Rattle.gaz_tables.specs.Tables.{rows_of}
-use Rattle.gaz_calls.specs.Lives.{IsRowBehind}
+use Rattle.gaz_answers.specs.Lives.{IsRowBehind}
 use Rattle.gaz_calls.proofs.Answered.{asked_as}
 use Rattle.gaz_calls.proofs.tables.Tables.rows_in_turn.Goals as goal
 

@@ -2,9 +2,9 @@ use Rattle.std.proofs.Common.{subst, IfOk}
 use Rattle.gaz_tables.specs.Receiveds.{FindsVerdict}
 use Rattle.gaz_tables.specs.Schema.{received}
 use Rattle.gaz_tables.specs.Tables.{rows_of}
-use Rattle.gaz_calls.specs.Answers.{SaysVerdict}
+use Rattle.gaz_answers.specs.Answers.{SaysVerdict}
 use Rattle.gaz_calls.proofs.Composing.{answered}
-use Rattle.gaz_calls.proofs.Verdicts.{verdict_told}
+use Rattle.gaz_answers.proofs.Verdicts.{verdict_told}
 use Rattle.gaz_calls.proofs.tables.Tables.verdict.Goals as goal
 
 pub returns-in-Ok : goal.returns-in-Ok

@@ -2,10 +2,10 @@ use Rattle.std.proofs.Common.{arith, subst}
 use Rattle.gaz_tables.specs.Schema.{received}
 use Rattle.gaz_tables.specs.Tables.{rows_of}
 use Rattle.gaz_kept.proofs.Stands.{are_files}
-use Rattle.gaz_calls.specs.Volumes.{SayVolumes}
+use Rattle.gaz_answers.specs.Volumes.{SayVolumes}
 use Rattle.gaz_calls.proofs.Answered.{answered_ok}
 use Rattle.gaz_calls.proofs.Composing.{asked_nothing}
-use Rattle.gaz_calls.proofs.VolumesTold.{none_above, volumes_told}
+use Rattle.gaz_answers.proofs.VolumesTold.{none_above, volumes_told}
 use Rattle.gaz_calls.proofs.tables.Tables.volumes_above.Goals as goal
 
 pub returns-then-volume-gt-LAST_VOLUME : goal.returns-then-volume-gt-LAST_VOLUME

@@ -8,11 +8,11 @@ use Rattle.gaz_records.specs.declared.item.Item.{Item}
 use Rattle.gaz_records.specs.declared.key.Key.{Key}
 use Rattle.gaz_views.specs.Accounts.{last_of}
 use Rattle.gaz_views.specs.Words.{entries}
+use Rattle.gaz_standing.specs.Indexes.{has_mark, marked_at}
+use Rattle.gaz_standing.specs.declared.index.Mark.{Mark}
 use Rattle.gaz_ledger.proofs.Known.{fewer, marked_put, others_put, still_so}
 use Rattle.gaz_ledger.proofs.Passes.{adopted_items}
-use Rattle.gaz_ledger.specs.Indexes.{has_mark, marked_at}
 use Rattle.gaz_ledger.specs.Properties.{AreSo, is_blpu}
-use Rattle.gaz_ledger.specs.declared.index.Mark.{Mark}
 use Rattle.gaz_ledger.proofs.cached_ledger.CachedLedger.adopt.Goals as goal
 
 pub invariant_of-self-2 : goal.invariant_of-self-2

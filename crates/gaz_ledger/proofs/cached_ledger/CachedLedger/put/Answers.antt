@@ -5,10 +5,10 @@ use Rattle.gaz_records.specs.Keys.{key_of}
 use Rattle.gaz_views.specs.Accounts.{Account, last_of}
 use Rattle.gaz_views.specs.View.{with_item}
 use Rattle.gaz_views.specs.Words.{entries}
+use Rattle.gaz_standing.specs.Indexes.{has_mark, marked_at}
+use Rattle.gaz_standing.specs.declared.index.Mark.{Mark}
 use Rattle.gaz_ledger.proofs.Known.{fewer, marked_put, others_put, still_so}
-use Rattle.gaz_ledger.specs.Indexes.{has_mark, marked_at}
 use Rattle.gaz_ledger.specs.Properties.{AreSo, is_blpu}
-use Rattle.gaz_ledger.specs.declared.index.Mark.{Mark}
 use Rattle.gaz_ledger.proofs.cached_ledger.CachedLedger.put.Goals as goal
 
 pub invariant_of-self-2 : goal.invariant_of-self-2

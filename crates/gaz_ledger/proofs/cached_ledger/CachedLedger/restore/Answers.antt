@@ -2,8 +2,8 @@
 use Rattle.std.proofs.Common.{◌≡◌, ◌∙◌, ap, length, subst, sym}
 use Rattle.gaz_records.specs.Keys.{key_of}
 use Rattle.gaz_views.specs.Accounts.{Account}
+use Rattle.gaz_standing.specs.Indexes.{has_mark}
 use Rattle.gaz_ledger.proofs.Lives.{known_lived}
-use Rattle.gaz_ledger.specs.Indexes.{has_mark}
 use Rattle.gaz_ledger.specs.Lives.{IsFreeFrom, IsLifeWithin}
 use Rattle.gaz_ledger.specs.Properties.{is_blpu}
 use Rattle.gaz_ledger.proofs.cached_ledger.CachedLedger.restore.Goals as goal

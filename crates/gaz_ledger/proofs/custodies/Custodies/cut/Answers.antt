@@ -3,8 +3,8 @@ use Rattle.std.specs.FinMap as finite
 use Rattle.std.specs.HashMap.{HashMap}
 use Rattle.gaz_histories.specs.Histories.{Versions, before}
 use Rattle.gaz_views.specs.declared.custody.Custody.{Custody}
+use Rattle.gaz_standing.proofs.Stored.{nothing_in}
 use Rattle.gaz_ledger.proofs.Becoming.{becomes, becomes_none, forgets_none, passed_stored}
-use Rattle.gaz_ledger.proofs.Stored.{nothing_in}
 use Rattle.gaz_ledger.specs.Custodies.{Custodies, passed_at}
 use Rattle.gaz_ledger.proofs.custodies.Custodies.cut.Goals as goal
 

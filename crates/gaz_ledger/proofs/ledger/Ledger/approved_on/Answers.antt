@@ -4,7 +4,7 @@ use Rattle.std.specs.List.{list_any}
 use Rattle.gaz_ids.specs.declared.lang.Lang.TheVariants.{Eng}
 use Rattle.gaz_views.specs.Accounts.{view_in}
 use Rattle.gaz_views.specs.Words.{approved_on, entries, is_approved_on}
-use Rattle.gaz_ledger.proofs.Marked.{any_lang}
+use Rattle.gaz_standing.proofs.Marked.{any_lang}
 use Rattle.gaz_ledger.proofs.ledger.Ledger.approved_on.Goals as goal
 
 pub returns-then-welsh : goal.returns-then-welsh

@@ -1,7 +1,7 @@
 use Rattle.std.proofs.Common.{rules, ◌≡◌, ◌+◌, ◌∷◌, [], ℕ, ap, arith, length, length-append, subst, sym}
 use Rattle.gaz_ledger.proofs.Becoming.{passing_closed}
 use Rattle.gaz_ledger.proofs.Closings.{account_judged, ledger_judged}
-use Rattle.gaz_ledger.proofs.TieFacts.{ties_judged}
+use Rattle.gaz_ledger.proofs.TiesKept.{ties_judged}
 use Rattle.gaz_ledger.specs.Custodies.{IsPassing}
 use Rattle.gaz_ledger.proofs.ledger.Ledger.close.Goals as goal
 

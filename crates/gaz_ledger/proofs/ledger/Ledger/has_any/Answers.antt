@@ -2,12 +2,12 @@ use Rattle.std.proofs.Common.{◌∙◌, ap}
 use Rattle.std.specs.List.{list_any}
 use Rattle.gaz_views.specs.View.{View}
 use Rattle.gaz_views.specs.Words.{entries}
-use Rattle.gaz_ledger.proofs.KeyHistories.{view_ascends}
-use Rattle.gaz_ledger.proofs.Marked.{any_under, none_under}
-use Rattle.gaz_ledger.proofs.Passing.{in_key_order}
+use Rattle.gaz_standing.proofs.KeyHistories.{view_ascends}
+use Rattle.gaz_standing.proofs.Marked.{any_under, none_under}
+use Rattle.gaz_standing.proofs.Passing.{in_key_order}
+use Rattle.gaz_standing.specs.KeyHistories.{view_at}
+use Rattle.gaz_standing.specs.Indexes.{has_mark, listed}
 use Rattle.gaz_ledger.proofs.Ledgers.{finds_from, seen}
-use Rattle.gaz_ledger.specs.KeyHistories.{view_at}
-use Rattle.gaz_ledger.specs.Indexes.{has_mark, listed}
 use Rattle.gaz_ledger.proofs.ledger.Ledger.has_any.Goals as goal
 
 pub returns-in-Some : goal.returns-in-Some

@@ -1,7 +1,7 @@
 use Rattle.std.proofs.Common.{◌∙◌, ap, sym}
 use Rattle.std.specs.FinMap as finite
 use Rattle.gaz_views.specs.View.{View}
-use Rattle.gaz_ledger.proofs.KeyHistories.{get_at}
+use Rattle.gaz_standing.proofs.KeyHistories.{get_at}
 use Rattle.gaz_ledger.proofs.Ledgers.{seen}
 use Rattle.gaz_ledger.proofs.ledger.Ledger.item.Goals as goal
 

@@ -2,12 +2,12 @@ use Rattle.std.proofs.Common.{◌∙◌, ap, map}
 use Rattle.std.specs.Prelude.{filter}
 use Rattle.gaz_views.specs.View.{View}
 use Rattle.gaz_views.specs.Words.{entries}
-use Rattle.gaz_ledger.proofs.KeyHistories.{view_ascends}
-use Rattle.gaz_ledger.proofs.Marked.{marked_under, nothing_under}
-use Rattle.gaz_ledger.proofs.Passing.{in_key_order}
+use Rattle.gaz_standing.proofs.KeyHistories.{view_ascends}
+use Rattle.gaz_standing.proofs.Marked.{marked_under, nothing_under}
+use Rattle.gaz_standing.proofs.Passing.{in_key_order}
+use Rattle.gaz_standing.specs.KeyHistories.{view_at}
+use Rattle.gaz_standing.specs.Indexes.{has_mark, listed}
 use Rattle.gaz_ledger.proofs.Ledgers.{finds_from, seen}
-use Rattle.gaz_ledger.specs.KeyHistories.{view_at}
-use Rattle.gaz_ledger.specs.Indexes.{has_mark, listed}
 use Rattle.gaz_ledger.proofs.ledger.Ledger.keys_of.Goals as goal
 
 pub returns-in_ok-keys_marked-in-Some : goal.returns-in_ok-keys_marked-in-Some

@@ -4,12 +4,12 @@ use Rattle.gaz_records.specs.declared.item.Item.{Item}
 use Rattle.gaz_records.specs.declared.key.Key.{Key}
 use Rattle.gaz_views.specs.View.{View}
 use Rattle.gaz_views.specs.Words.{entries, first_of}
-use Rattle.gaz_ledger.proofs.KeyHistories.{view_ascends}
+use Rattle.gaz_standing.proofs.KeyHistories.{view_ascends}
+use Rattle.gaz_standing.proofs.Marked.{first_under, no_first}
+use Rattle.gaz_standing.proofs.Passing.{in_key_order}
+use Rattle.gaz_standing.specs.KeyHistories.{view_at}
+use Rattle.gaz_standing.specs.Indexes.{has_mark, listed}
 use Rattle.gaz_ledger.proofs.Ledgers.{finds_from, seen}
-use Rattle.gaz_ledger.proofs.Marked.{first_under, no_first}
-use Rattle.gaz_ledger.proofs.Passing.{in_key_order}
-use Rattle.gaz_ledger.specs.KeyHistories.{view_at}
-use Rattle.gaz_ledger.specs.Indexes.{has_mark, listed}
 use Rattle.gaz_ledger.proofs.ledger.Ledger.least_of.Goals as goal
 
 pub returns-in-Some : goal.returns-in-Some

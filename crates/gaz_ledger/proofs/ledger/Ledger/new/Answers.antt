@@ -1,8 +1,8 @@
 use Rattle.std.proofs.Common.{◌∙◌}
 use Rattle.std.specs.FinMap as finite
+use Rattle.gaz_standing.proofs.TieFacts.{ties_none}
 use Rattle.gaz_ledger.proofs.Becoming.{passing_new}
 use Rattle.gaz_ledger.proofs.Ledgers.{account_new, ledger_new}
-use Rattle.gaz_ledger.proofs.TieFacts.{ties_none}
 use Rattle.gaz_ledger.specs.Ledgers.{account_at}
 use Rattle.gaz_ledger.proofs.ledger.Ledger.new.Goals as goal
 

@@ -6,7 +6,7 @@ use Rattle.gaz_ledger.proofs.Becoming.{passing_more, passing_set}
 use Rattle.gaz_ledger.proofs.Closings.{ledger_changed}
 use Rattle.gaz_ledger.proofs.Lives.{ledger_kept}
 use Rattle.gaz_ledger.proofs.Passes.{account_passed, account_unpassed, begins_passed, ledger_touched, when_ok}
-use Rattle.gaz_ledger.proofs.TieFacts.{ties_changed}
+use Rattle.gaz_ledger.proofs.TiesKept.{ties_changed}
 use Rattle.gaz_ledger.specs.Custodies.{Custodies, IsPassing, PassesAt}
 use Rattle.gaz_ledger.proofs.ledger.Ledger.pass.Goals as goal
 

@@ -1,7 +1,7 @@
 use Rattle.std.proofs.Common.{rules, ◌≡◌, ◌∙◌, ap, length}
 use Rattle.gaz_records.specs.Keys.{key_of}
 use Rattle.gaz_ledger.proofs.Closings.{account_put, ledger_changed}
-use Rattle.gaz_ledger.proofs.TieFacts.{ties_changed}
+use Rattle.gaz_ledger.proofs.TiesKept.{ties_changed}
 use Rattle.std.specs.Prelude.{Some}
 use Rattle.gaz_ledger.proofs.ledger.Ledger.put.Goals as goal
 

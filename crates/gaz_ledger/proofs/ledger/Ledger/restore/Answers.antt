@@ -1,11 +1,12 @@
 use Rattle.std.proofs.Common.{◌≡◌, ◌∙◌, ◌+◌, ap, length, subst, sym}
 use Rattle.gaz_records.specs.Keys.{key_of}
 use Rattle.gaz_records.specs.declared.key.Key.{Key}
+use Rattle.gaz_standing.proofs.TieFacts.{ties_none}
+use Rattle.gaz_standing.specs.Changing.{LivesAt}
 use Rattle.gaz_ledger.proofs.Ledgers.{reached_of}
 use Rattle.gaz_ledger.proofs.Lives.{account_lived, ledger_kept, ledger_lived}
-use Rattle.gaz_ledger.proofs.TieFacts.{ties_none}
 use Rattle.gaz_ledger.specs.Ledgers.{Finds}
-use Rattle.gaz_ledger.specs.Lives.{IsLifeWithin, LivesAt}
+use Rattle.gaz_ledger.specs.Lives.{IsLifeWithin}
 use Rattle.gaz_ledger.proofs.ledger.Ledger.restore.Goals as goal
 
 pub live_found-requires-clause-within : goal.live_found-requires-clause-within

@@ -2,10 +2,10 @@
 use Rattle.std.proofs.Common.{◌+◌, ℕ, length, subst, sym}
 use Rattle.std.specs.Prelude.{None}
 use Rattle.gaz_views.proofs.Outcomes.{where_err}
+use Rattle.gaz_standing.proofs.TieFacts.{ties_none}
+use Rattle.gaz_standing.specs.KeyHistories.{KeyHistories}
 use Rattle.gaz_ledger.proofs.Ledgers.{reached_of}
 use Rattle.gaz_ledger.proofs.Passages.{account_back, account_same, ledger_back, passing_back}
-use Rattle.gaz_ledger.proofs.TieFacts.{ties_none}
-use Rattle.gaz_ledger.specs.KeyHistories.{KeyHistories}
 use Rattle.gaz_ledger.specs.Ledgers.{IsLedger}
 use Rattle.gaz_ledger.specs.Lives.{IsLifeWithin}
 use Rattle.gaz_ledger.proofs.ledger.Ledger.restore_passage.Goals as goal

@@ -1,6 +1,6 @@
 use Rattle.std.proofs.Common.{rules, ◌≡◌, ◌∙◌, false, length, sym, true}
 use Rattle.gaz_ledger.proofs.Closings.{account_taken, account_unmarked, account_untaken, ledger_changed}
-use Rattle.gaz_ledger.proofs.TieFacts.{ties_changed}
+use Rattle.gaz_ledger.proofs.TiesKept.{ties_changed}
 use Rattle.std.specs.Prelude.{None}
 use Rattle.gaz_ledger.proofs.ledger.Ledger.take.Goals as goal
 

@@ -1,9 +1,9 @@
 use Rattle.std.proofs.Common.{rules, ◌≡◌, ◌≤◌, ◌+◌, ◌∙◌, ℕ, ap, length, subst, sym, arith}
 use Rattle.gaz_views.specs.View.{View}
 use Rattle.gaz_views.specs.Words.{tied}
+use Rattle.gaz_standing.specs.Ties.{AreTies}
 use Rattle.gaz_ledger.proofs.Ledgers.{reached_of, seen}
-use Rattle.gaz_ledger.proofs.TieFacts.{ties_from}
-use Rattle.gaz_ledger.specs.Ties.{AreTies}
+use Rattle.gaz_ledger.proofs.TiesKept.{ties_from}
 use Rattle.gaz_ledger.proofs.ledger.Ledger.tied.Goals as goal
 
 pub count-requires-clause-ties : goal.count-requires-clause-ties

@@ -1,10 +1,11 @@
 use Rattle.std.proofs.Common.{rules, ◌≡◌, ◌+◌, ℕ, length, subst, sym}
+use Rattle.gaz_standing.proofs.TieFacts.{ties_shed}
+use Rattle.gaz_standing.specs.Ties.{AreTies}
 use Rattle.gaz_ledger.proofs.Closings.{account_undone}
 use Rattle.gaz_ledger.proofs.Ledgers.{ledger_found}
-use Rattle.gaz_ledger.proofs.TieFacts.{ties_shed, ties_undone}
+use Rattle.gaz_ledger.proofs.TiesKept.{ties_undone}
 use Rattle.gaz_ledger.specs.Custodies.{IsPassing}
 use Rattle.gaz_ledger.specs.Ledgers.{IsLedger}
-use Rattle.gaz_ledger.specs.Ties.{AreTies}
 use Rattle.gaz_ledger.proofs.ledger.Ledger.undo.Goals as goal
 
 pub invariant_of-self : goal.invariant_of-self

@@ -1,6 +1,6 @@
 use Rattle.std.proofs.Common.{◌∙◌, ap, sym}
 use Rattle.gaz_views.specs.View.{View, was_used}
-use Rattle.gaz_ledger.proofs.KeyHistories.{contains_at}
+use Rattle.gaz_standing.proofs.KeyHistories.{contains_at}
 use Rattle.gaz_ledger.proofs.Ledgers.{seen}
 use Rattle.gaz_ledger.proofs.ledger.Ledger.was_used.Goals as goal
 

@@ -1,9 +1,9 @@
 use Rattle.std.proofs.Common.{◌≡◌, [], ◌∷◌, ap, ◌∙◌}
 use Rattle.std.specs.Prelude.{decimal}
+use Rattle.gaz_fields.proofs.Growing.{◌>>◌}
+use Rattle.gaz_fields.proofs.Written.{more, row_is}
 use Rattle.gaz_records.specs.Blpus.{texts_behind}
 use Rattle.gaz_records.specs.declared.adopt.Adopt.{Adopt}
-use Rattle.gaz_records.proofs.Growing.{◌>>◌}
-use Rattle.gaz_records.proofs.Written.{more, row_is}
 use Rattle.gaz_records.proofs.adopt.Adopt.write.Goals as goal
 
 pub returns-clause-row : goal.returns-clause-row

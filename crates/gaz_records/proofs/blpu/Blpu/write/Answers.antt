@@ -1,8 +1,8 @@
 use Rattle.std.proofs.Common.{◌≡◌}
 use Rattle.std.specs.Prelude.{decimal}
+use Rattle.gaz_fields.proofs.Growing.{◌>>◌}
+use Rattle.gaz_fields.proofs.Written.{row_is}
 use Rattle.gaz_records.specs.Blpus.{texts_behind}
-use Rattle.gaz_records.proofs.Growing.{◌>>◌}
-use Rattle.gaz_records.proofs.Written.{row_is}
 use Rattle.gaz_records.proofs.blpu.Blpu.write.Goals as goal
 
 pub returns-clause-row : goal.returns-clause-row

@@ -2,10 +2,10 @@ use Rattle.std.proofs.Common.{[], ◌∷◌}
 use Rattle.std.specs.Prelude.{decimal}
 use Rattle.std.specs.Option.{unwrap_or}
 use Rattle.gaz_ids.specs.Codes.{status_text}
+use Rattle.gaz_fields.specs.Days.{date_text, end_text}
+use Rattle.gaz_fields.proofs.Growing.{◌>>◌}
+use Rattle.gaz_fields.proofs.Written.{more}
 use Rattle.gaz_records.specs.Blpus.{parent_text}
-use Rattle.gaz_records.specs.Days.{date_text, end_text}
-use Rattle.gaz_records.proofs.Growing.{◌>>◌}
-use Rattle.gaz_records.proofs.Written.{more}
 use Rattle.gaz_records.proofs.blpu.Blpu.write_behind.Goals as goal
 
 pub returns-clause-row : goal.returns-clause-row

@@ -2,8 +2,8 @@ use Rattle.std.proofs.Common.{[], ◌∷◌}
 use Rattle.std.specs.Prelude.{decimal}
 use Rattle.std.specs.Option.{unwrap_or}
 use Rattle.gaz_ids.specs.Codes.{lang_text}
-use Rattle.gaz_records.proofs.Growing.{◌>>◌}
-use Rattle.gaz_records.proofs.Written.{more, row_is}
+use Rattle.gaz_fields.proofs.Growing.{◌>>◌}
+use Rattle.gaz_fields.proofs.Written.{more, row_is}
 use Rattle.gaz_records.proofs.descriptor.Descriptor.write.Goals as goal
 
 pub returns-clause-row : goal.returns-clause-row

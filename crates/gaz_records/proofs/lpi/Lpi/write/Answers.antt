@@ -2,10 +2,10 @@ use Rattle.std.proofs.Common.{[], ◌∷◌, ◌++◌, append_assoc}
 use Rattle.std.specs.Prelude.{decimal}
 use Rattle.gaz_ids.specs.Codes.{lang_text, status_text}
 use Rattle.gaz_addressable.specs.Objects.{texts_of}
-use Rattle.gaz_records.specs.Days.{date_text, end_text}
+use Rattle.gaz_fields.specs.Days.{date_text, end_text}
+use Rattle.gaz_fields.proofs.Growing.{◌>>◌}
+use Rattle.gaz_fields.proofs.Written.{more, row_is}
 use Rattle.gaz_records.specs.Lpis.{secondary_texts}
-use Rattle.gaz_records.proofs.Growing.{◌>>◌}
-use Rattle.gaz_records.proofs.Written.{more, row_is}
 use Rattle.gaz_records.proofs.lpi.Lpi.write.Goals as goal
 
 pub returns-clause-row : goal.returns-clause-row

@@ -1,8 +1,8 @@
 use Rattle.std.proofs.Common.{[], ◌∷◌}
 use Rattle.std.specs.Prelude.{decimal}
-use Rattle.gaz_records.specs.Days.{date_text, end_text}
-use Rattle.gaz_records.proofs.Growing.{◌>>◌}
-use Rattle.gaz_records.proofs.Written.{more, row_is}
+use Rattle.gaz_fields.specs.Days.{date_text, end_text}
+use Rattle.gaz_fields.proofs.Growing.{◌>>◌}
+use Rattle.gaz_fields.proofs.Written.{more, row_is}
 use Rattle.gaz_records.proofs.xref.Xref.write.Goals as goal
 
 pub returns-clause-row : goal.returns-clause-row

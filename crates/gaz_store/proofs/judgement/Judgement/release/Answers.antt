@@ -1,21 +1,21 @@
-use Rattle.std.proofs.Common.{IfOk, subst, sym}
+use Rattle.std.proofs.Common.{IfOk, refl, subst, sym}
+use Rattle.gaz_records.specs.declared.key.Key.TheVariants as key
 use Rattle.gaz_views.specs.View.{with_release}
 use Rattle.gaz_calls.proofs.Answered.{asked_fault, asked_step, asked_want}
-use Rattle.gaz_store.specs.Beside.{Makes, Turns}
-use Rattle.gaz_store.proofs.PassedOn.{released_turns}
-use Rattle.gaz_store.proofs.Turning.{with_changes}
+use Rattle.gaz_store.specs.Beside.{Makes, Readies, with_changes}
 use Rattle.gaz_store.proofs.judgement.Judgement.release.Goals as goal
 
 pub returns-in-Ok-release-clause-asks : goal.returns-in-Ok-release-clause-asks
 returns-in-Ok-release-clause-asks g c =
-    let j = c.touch.new.self in
-    asked_step _ _ _ _ c.since.result c.in-Ok.since _ _ _ _ c.touch.ensures.asks c.since.ensures c.in-Ok.is (λ db kept was told w makes.
-    let turns = subst (λ r. IfOk r (λ _. Turns db c.args.self.now j (λ w. w))) c.in_ok-touch.was was in
+    let j = c.hide.new.self in
+    asked_step _ _ _ _ c.since.result c.in-Ok.since _ _ _ _ c.hide.ensures.asks c.since.ensures c.in-Ok.is (λ db kept was told w makes.
+    let readies = subst (λ r. IfOk r (λ _. Readies db c.args.self.now j (key.Blpu c.args.uprn))) c.in_ok-hide.was was in
+    let ready = readies w makes in
     subst (λ ch. Makes db (with_changes j ch) (with_release w c.args.uprn c.args.to c.args.hop)) (sym c.in-Ok-release.ensures.ok)
-    (released_turns db j c.args.uprn c.in-Ok.since (told (turns w makes).known) c.args.to c.args.hop c.in_ok-touch.ensures.touched w (turns w makes)))
+    (ready.released c.args.uprn c.args.to c.args.hop c.in-Ok.since refl (told ready.known)))
 
 pub returns-in-Err-release-clause-asks : goal.returns-in-Err-release-clause-asks
-returns-in-Err-release-clause-asks g c = asked_want _ _ _ _ _ _ _ _ c.touch.ensures.asks c.since.ensures
+returns-in-Err-release-clause-asks g c = asked_want _ _ _ _ _ _ _ _ c.hide.ensures.asks c.since.ensures
 
 pub returns-in-Err-clause-asks : goal.returns-in-Err-clause-asks
-returns-in-Err-clause-asks g c = asked_fault _ _ _ _ _ c.in-Err.fault _ _ _ c.touch.ensures.asks c.since.ensures c.in-Err.is
+returns-in-Err-clause-asks g c = asked_fault _ _ _ _ _ c.in-Err.fault _ _ _ c.hide.ensures.asks c.since.ensures c.in-Err.is

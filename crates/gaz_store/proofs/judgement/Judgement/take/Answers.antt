@@ -1,8 +1,8 @@
 use Rattle.std.proofs.Common.{subst, sym}
 use Rattle.gaz_views.specs.View.{without_key}
 use Rattle.gaz_calls.proofs.Answered.{answered_ok}
-use Rattle.gaz_store.specs.Beside.{Makes}
-use Rattle.gaz_store.proofs.Turning.{taken_turns, with_changes}
+use Rattle.gaz_store.specs.Beside.{Makes, with_changes}
+use Rattle.gaz_store.proofs.Turning.{taken_turns}
 use Rattle.gaz_store.proofs.judgement.Judgement.take.Goals as goal
 
 pub returns-in-Ok-clause-asks : goal.returns-in-Ok-clause-asks

@@ -1,7 +1,7 @@
 use Rattle.std.proofs.Common.{subst, sym}
 use Rattle.gaz_calls.proofs.Answered.{answered_ok}
-use Rattle.gaz_store.specs.Beside.{Makes}
-use Rattle.gaz_store.proofs.Turning.{touched_turns, with_changes}
+use Rattle.gaz_store.specs.Beside.{Makes, with_changes}
+use Rattle.gaz_store.proofs.Turning.{touched_turns}
 use Rattle.gaz_store.proofs.judgement.Judgement.touch_first.Goals as goal
 
 pub returns-in-Ok-touch-clause-asks : goal.returns-in-Ok-touch-clause-asks

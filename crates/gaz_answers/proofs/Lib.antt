@@ -1,0 +1,15 @@
+pub mod Taken
+pub mod Paired
+pub mod Holding
+pub mod Chosen
+pub mod Fits
+pub mod PageRows
+pub mod StreetRows
+pub mod Saying
+pub mod Verdicts
+pub mod Bytes
+pub mod LifeRows
+pub mod PassageRows
+pub mod LivesTold
+pub mod VolumesTold
+pub mod WorkedLives

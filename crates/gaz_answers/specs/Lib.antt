@@ -1,0 +1,7 @@
+pub mod Answers
+pub mod Passages
+pub mod Paging
+pub mod Streets
+pub mod Lives
+pub mod Volumes
+pub mod WorkedLives

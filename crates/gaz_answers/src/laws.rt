@@ -1,0 +1,7 @@
+//! What a reader of the definitions may rely on.
+ghost use Rattle.gaz_answers.specs.WorkedLives.{WorkedTelling};
+
+/// What is told of a table's rows in turn, on worked examples.
+pub fn worked_telling()
+    ensures { WorkedTelling }
+{}

@@ -1,0 +1,71 @@
+//! Where a page of a gazetteer's items begins, and which items its rows say.
+ghost use Rattle.std.specs.Prelude.{◌≡◌, IfOk, Some, option_map};
+ghost use Rattle.std.specs.String.{string_bytes};
+ghost use Rattle.gaz_answers.specs.Paging.{IsStart, SayItems, item_said};
+
+use gaz_cells::Bodies;
+use gaz_kept::decoding::{RowFault, body_lines, key_in, kind_in, name_of, next_item_in};
+use gaz_records::{Key, Kind, SharedItem};
+use sqlite::Row;
+use std::alloc::Global;
+
+// The text behind which the ids of a kind stand that name the keys after this one; none where no
+// key of the kind comes after it.
+fn start_after(alloc: Global, kind: Kind, key: &Key) -> Result<Option<String>, RowFault>
+    ensures { IfOk result (λ start. IsStart kind (Some key.now) (option_map string_bytes start)) }
+{
+    let own = kind_in(key).number();
+    if kind.number() < own {
+        return Ok(None);
+    }
+    if own < kind.number() {
+        return Ok(Some(String::new(alloc)));
+    }
+    let name = name_of(alloc, key)?;
+    Ok(Some(name))
+}
+
+/// The text behind which the ids of a kind stand after a key, or from the start; none where no key
+/// of the kind comes after it.
+///
+/// `Memory` where there is none for the text; `Wrong` comes of no key, as each name is a text.
+pub fn start_of(alloc: Global, kind: Kind, after: Option<Key>) -> Result<Option<String>, RowFault>
+    ensures { IfOk result (λ start. IsStart kind after (option_map string_bytes start)) }
+{
+    match after {
+        Some(key) => start_after(alloc, kind, &key),
+        None => Ok(Some(String::new(alloc))),
+    }
+}
+
+// The item of a kind that a row of id and body says.
+fn said(
+    alloc: Global,
+    bodies: &mut Bodies<'_>,
+    kind: Kind,
+    row: &Row,
+) -> Result<SharedItem, RowFault>
+    ensures { IfOk result (λ item. item_said kind row.now ≡ Some item) }
+{
+    let key = key_in(kind, row, 0)?;
+    next_item_in(alloc, bodies, &key, row, 1)
+}
+
+/// The items of a kind that rows of id and body say, in turn.
+///
+/// `Wrong` where a row says none of the kind, as no row of a store does; `Memory` where there is
+/// none for the items.
+pub fn items_in(alloc: Global, kind: Kind, rows: &[Row]) -> Result<Vec<SharedItem>, RowFault>
+    ensures { IfOk result (λ items. SayItems kind rows.now items.items) }
+{
+    let lines = body_lines(alloc, rows, 1)?;
+    let mut bodies = Bodies::of(alloc, &lines);
+    let mut items = Vec::new(alloc);
+    for row in rows {
+        let item = said(alloc, &mut bodies, kind, row)?;
+        if items.push(item).is_err() {
+            return Err(RowFault::Memory);
+        }
+    }
+    Ok(items)
+}

@@ -1,0 +1,65 @@
+//! What rows of kind 92 say, and behind what those stand that come behind one.
+ghost use Rattle.std.specs.Prelude.{◌≡◌, IfOk, Some};
+ghost use Rattle.std.specs.String.{string_bytes};
+ghost use Rattle.sqlite.specs.Order.{column};
+ghost use Rattle.gaz_cells.specs.Ids.{key_named};
+ghost use Rattle.gaz_kept.specs.Versions.{text_in};
+ghost use Rattle.gaz_answers.specs.Passages.{IsStartOf, SayPassages};
+
+use gaz_ids::{LAST_VOLUME, Uprn};
+use gaz_kept::decoding::{RowFault, key_in, name_of};
+use gaz_kept::passages::passed_in;
+use gaz_loaded::Passage;
+use gaz_records::{Key, Kind};
+use sqlite::Row;
+use std::alloc::Global;
+
+// Which number a row names.
+fn uprn_in(row: &Row) -> Result<Uprn, RowFault>
+    ensures { IfOk result (λ uprn.
+        key_named Kind.Blpu (text_in (column row.now 0)) ≡ Some (Key.Blpu uprn)) }
+{
+    match key_in(Kind::Blpu, row, 0)? {
+        Key::Blpu(uprn) => Ok(uprn),
+        _ => Err(RowFault::Wrong),
+    }
+}
+
+/// What rows say, in turn: each has id, born, gone, live, street, hop, lang and body.
+///
+/// `Wrong` where a row doesn't say what became of a number, as each of kind 92 of a store does;
+/// `Memory` where there is none for what they say.
+pub fn passages_in(alloc: Global, rows: &[Row]) -> Result<Vec<Passage>, RowFault>
+    ensures { IfOk result (λ passages. SayPassages rows.now passages.items) }
+{
+    let mut passages = Vec::new(alloc);
+    for row in rows {
+        let uprn = uprn_in(row)?;
+        let passed = passed_in(row, 1)?;
+        let passage = Passage {
+            uprn,
+            born: passed.born,
+            custody: passed.custody,
+        };
+        if passages.push(passage).is_err() {
+            return Err(RowFault::Memory);
+        }
+    }
+    Ok(passages)
+}
+
+/// The id and the volume behind which the rows stand that come behind a passage, or all where none
+/// is given: an id without a byte and 0. The volume is at most `LAST_VOLUME`.
+///
+/// `Memory` where there is none for the id; `Wrong` comes of no number, as each name is a text.
+pub fn start_of(alloc: Global, after: Option<Passage>) -> Result<(String, u32), RowFault>
+    ensures { IfOk result (λ start. IsStartOf after (string_bytes start.0, start.1)) }
+{
+    match after {
+        Some(passage) => {
+            let name = name_of(alloc, &Key::Blpu(passage.uprn))?;
+            Ok((name, passage.born.min(LAST_VOLUME) as u32))
+        }
+        None => Ok((String::new(alloc), 0)),
+    }
+}

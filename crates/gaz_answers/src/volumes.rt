@@ -1,0 +1,44 @@
+//! Which volumes rows say, and up to which a statement asks.
+ghost use Rattle.std.specs.Prelude.{◌≡◌, ◌≤◌, pos, IfOk};
+ghost use Rattle.sqlite.specs.Order.{column};
+ghost use Rattle.sqlite.specs.declared.types.Value.TheVariants.{Int};
+ghost use Rattle.gaz_answers.specs.Volumes.{SayVolumes};
+
+use gaz_ids::{LAST_VOLUME, Volume};
+use gaz_kept::decoding::{RowFault, number};
+use sqlite::Row;
+use std::alloc::Global;
+
+// The volume that a row says.
+fn volume_in(row: &Row) -> Result<Volume, RowFault>
+    ensures { IfOk result (λ volume. column row.now 0 ≡ Int (pos volume)) }
+{
+    match Volume::of(number(row, 0)?) {
+        Some(volume) => Ok(volume),
+        None => Err(RowFault::Wrong),
+    }
+}
+
+/// The volumes that rows say in their first column, in turn.
+///
+/// `Wrong` where a row says none from 1 to `LAST_VOLUME`, as no row of a store does; `Memory` where
+/// there is none for the volumes.
+pub fn volumes_in(alloc: Global, rows: &[Row]) -> Result<Vec<Volume>, RowFault>
+    ensures { IfOk result (λ volumes. SayVolumes rows.now volumes.items) }
+{
+    let mut volumes = Vec::new(alloc);
+    for row in rows {
+        let volume = volume_in(row)?;
+        if volumes.push(volume).is_err() {
+            return Err(RowFault::Memory);
+        }
+    }
+    Ok(volumes)
+}
+
+/// The volume, or `LAST_VOLUME` where it is beyond: none behind that is reached.
+pub fn capped(volume: u64) -> u32
+    ensures { volume ≤ LAST_VOLUME → result ≡ volume }
+{
+    volume.min(LAST_VOLUME) as u32
+}

@@ -1,6 +1,0 @@
-use Rattle.std.proofs.Common.{take}
-use Rattle.gaz_calls.specs.Paging.{SayItems}
-use Rattle.gaz_calls.proofs.pages.all_said.Given as goal
-
-abbrev pub invariant-loop-row : goal.invariant-loop-row
-invariant-loop-row l = SayItems l.kind (take l.row-index l.rows) l.items.items

@@ -1,8 +1,0 @@
-use Rattle.std.proofs.Common.{◌≡◌, false, take}
-use Rattle.std.specs.List.{list_any}
-use Rattle.std.specs.Prelude.{option_map}
-use Rattle.gaz_calls.specs.Streets.{says_left}
-use Rattle.gaz_calls.proofs.steps.any_says.Given as goal
-
-abbrev pub invariant-loop-row : goal.invariant-loop-row
-invariant-loop-row l = list_any (says_left l.lang (option_map (λ c. c.now) l.passed)) (take l.row-index l.rows) ≡ false

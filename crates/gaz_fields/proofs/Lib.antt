@@ -1,0 +1,10 @@
+pub mod Both
+pub mod DatesBack
+pub mod Places
+pub mod LabelBytes
+pub mod LabelOrder
+pub mod Written
+pub mod Growing
+pub mod Says
+pub mod ReadFields
+pub mod ReadObjects

@@ -1,0 +1,6 @@
+pub mod Days
+pub mod Labels
+pub mod Fields
+pub mod Forms
+pub mod Appending
+pub mod WorkedDates

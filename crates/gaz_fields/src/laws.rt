@@ -1,0 +1,6 @@
+ghost use Rattle.gaz_fields.specs.WorkedDates.{WorkedDates};
+
+/// What dates say on worked examples.
+pub fn worked_dates()
+    ensures { WorkedDates }
+{}

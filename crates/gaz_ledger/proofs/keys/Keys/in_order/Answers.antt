@@ -1,5 +1,0 @@
-use Rattle.gaz_ledger.proofs.KeySets.{one_ascends}
-use Rattle.gaz_ledger.proofs.keys.Keys.in_order.Goals as goal
-
-pub returns-in-One : goal.returns-in-One
-returns-in-One c = rw c.in-One.is (one_ascends c.in-One.field-0)

@@ -1,6 +1,0 @@
-use Rattle.std.proofs.Common.{◌≡◌, drop}
-use Rattle.gaz_records.specs.Labels.{are_label_bytes}
-use Rattle.gaz_records.proofs.label.has_label_bytes.Given as goal
-
-abbrev pub invariant-loop-byte : goal.invariant-loop-byte
-invariant-loop-byte l = are_label_bytes (drop l.byte-index l.bytes) ≡ are_label_bytes l.bytes

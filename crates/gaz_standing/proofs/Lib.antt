@@ -1,0 +1,13 @@
+pub mod Examples
+pub mod Versions
+pub mod RowsAt
+pub mod KeyHistories
+pub mod Stored
+pub mod Marks
+pub mod KeyOrders
+pub mod KeySets
+pub mod Indexes
+pub mod Passing
+pub mod Marked
+pub mod Ranges
+pub mod TieFacts

@@ -1,0 +1,9 @@
+use Rattle.std.proofs.Common.{◌≡◌}
+use Rattle.std.specs.List.{list_any}
+use Rattle.gaz_views.specs.Words.{entries}
+use Rattle.gaz_standing.specs.KeyHistories.{view_at}
+use Rattle.gaz_standing.specs.Indexes.{listed, marked_at}
+use Rattle.gaz_standing.proofs.marked_items.any_marked.Given as goal
+
+abbrev pub invariant-loop-key : goal.invariant-loop-key
+invariant-loop-key l = list_any (marked_at (entries (view_at l.histories l.volume)) l.mark) l.key-iterator ≡ list_any (marked_at (entries (view_at l.histories l.volume)) l.mark) (listed l.keys)
