@@ -38,7 +38,8 @@ pub fn volumes_in(alloc: Global, rows: &[Row]) -> Result<Vec<Volume>, RowFault>
 
 /// The volume, or `LAST_VOLUME` where it is beyond: none behind that is reached.
 pub fn capped(volume: u64) -> u32
-    ensures { volume ≤ LAST_VOLUME → result ≡ volume }
+    ensures within { volume ≤ LAST_VOLUME → result ≡ volume }
+    ensures beyond { LAST_VOLUME ≤ volume → result ≡ LAST_VOLUME }
 {
     volume.min(LAST_VOLUME) as u32
 }

@@ -9,7 +9,6 @@ use Rattle.gaz_register.specs.Growing.{Extends, growth_of, keeps_blocks, keeps_c
 use Rattle.gaz_register.specs.Registers.{RegisterValue}
 use Rattle.gaz_register.specs.Texts.{register_text}
 use Rattle.gaz_register.proofs.Grown.{grows}
-use Rattle.gaz_keeper.specs.Keeper as keeper
 use Rattle.gaz_keeper.specs.declared.fault.ShelfFault.{ShelfFault}
 use Rattle.gaz_keeper.specs.declared.fault.ShelfFault.TheVariants as shelf
 use Rattle.gaz_tables.specs.Schema.{meta}

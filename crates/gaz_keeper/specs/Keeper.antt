@@ -1,6 +1,6 @@
 -- A keeper at one moment, and what each of its calls tells.
 use Rattle.std.specs.Prelude.{◌≡◌, ◌≢◌, ◌≤◌, ◌<◌, ◌+◌, ◌-◌, ◌^◌, ◌==◌, ◌⊎◌, ⊤, ℕ, Bool, true}
-use Rattle.std.specs.Prelude.{if◌then◌else◌, List, [], Option, None, Some, IsSome, Result, Err}
+use Rattle.std.specs.Prelude.{if◌then◌else◌, List, Option, None, Some, IsSome, Result, Err}
 use Rattle.std.specs.Prelude.{IfOk, IfErr, OnOk, OnErr}
 use Rattle.std.specs.FinMap as map
 use Rattle.gaz_views.specs.Lawful.{IsLawfulView}

@@ -24,8 +24,8 @@ pub const WORKING: u64 = 1;
 /// is, and what is to be written for each key and each number when it is kept.
 ///
 /// A key is touched before it is put, taken or passed on: then the caller says what the tables have
-/// there. What the last view answers is the caller's too; to lay the changes' answers over it is
-/// left to him, but for `approved_of`.
+/// there. What the last view answers is the caller's too, who lays the changes' answers over it,
+/// but for those of `approved_of`.
 #[derive(Drop)]
 pub struct Overlay {
     pub(crate) ledger: CachedLedger,

@@ -5,9 +5,10 @@ use Rattle.clap.specs.Words.{Text, fault_of}
 use Rattle.clap.specs.declared.error.kind.ErrorKind.TheVariants as kind
 use Rattle.gaz_words.specs.Grammar.{gazhub}
 use Rattle.gaz_words.specs.Meaning.{Means}
-use Rattle.gaz_words.specs.declared.command.Call.TheVariants.{Line, Submit}
+use Rattle.gaz_words.specs.declared.command.Call.TheVariants.{Extract, Line, Status, Submit}
 use Rattle.gaz_words.specs.declared.command.Command.{Command}
-use Rattle.gaz_words.specs.declared.command.Command.TheVariants.{Ask, Init, Play, Serve}
+use Rattle.gaz_words.specs.declared.command.Command.TheVariants.{Ask, Extend, Init, Migrate}
+use Rattle.gaz_words.specs.declared.command.Command.TheVariants.{Play, Serve}
 use Rattle.gaz_words.specs.declared.command.Places.{Places}
 
 -- words for a store and its register, which come first or last, apart or joined
@@ -55,6 +56,20 @@ pub record WorkedWords : Type 0 where
   pub hyphen : (places : Places) (uprn : Bor Text) → ArePlaces places → uprn.now ≡ codes "-1"
       → Means (codes "line" ∷ (at_places ++ codes "--" ∷ codes "-1" ∷ []))
       (Ok (Ask places (Line uprn)))
+  -- so it is of each other command
+  pub asks_standing : (places : Places) (code : Bor Text) → ArePlaces places
+      → code.now ≡ codes "1001"
+      → Means (codes "status" ∷ codes "1001" ∷ joined_places) (Ok (Ask places (Status code)))
+  pub asks_extract : (places : Places) (code volume : Bor Text) → ArePlaces places
+      → code.now ≡ codes "1001" → volume.now ≡ codes "2"
+      → Means (codes "extract" ∷ codes "1001" ∷ codes "2" ∷ joined_places)
+      (Ok (Ask places (Extract code volume)))
+  pub grows : (places : Places) (grown : Bor Text) → ArePlaces places
+      → grown.now ≡ codes "grown.toml"
+      → Means (codes "extend" ∷ codes "--grown=grown.toml" ∷ joined_places)
+      (Ok (Extend places grown))
+  pub migrates : (places : Places) → ArePlaces places
+      → Means (codes "migrate" ∷ at_places) (Ok (Migrate places))
   -- numbers are read, and have a greatest
   pub serves : (places : Places) → ArePlaces places → Means (serving_at (codes "8080"))
       (Ok (Serve places (record { port = 8080; connections = 9 })))
@@ -62,6 +77,7 @@ pub record WorkedWords : Type 0 where
   -- no command is a conversation; what isn't there, is too much or is unknown is a fault, and so
   -- is what asks for help
   pub nothing : Means [] (Ok Play)
+  pub plays : Means (codes "play" ∷ []) (Ok Play)
   pub no_store : fault_of gazhub (codes "init" ∷ codes "--register=hub.toml" ∷ [])
       ≡ kind.MissingRequiredArgument ∷ []
   pub two_stores : fault_of gazhub (codes "init" ∷ (at_places ++ codes "--store=other.db" ∷ []))

@@ -1,5 +1,4 @@
 pub mod Playing
-mod Sites
+pub mod Sites
 mod Serving
-mod Filing
-mod Joining
+mod Sessions

@@ -1,14 +1,22 @@
 -- What comes of looking for a register and for a store's files, and of peers.
-use Rattle.std.proofs.Common.{◌≡◌, ◌∙◌, ◌++◌, List, [], ◌∷◌, None, Ok, Err, Result, IfErr, IfOk, IsErrAnd, Option, OnErr, ℕ, ap, map, refl, subst}
+use Rattle.std.proofs.Common.{◌≡◌, ◌∙◌, ◌++◌, List, [], ◌∷◌, None, Ok, Err, Result, IfErr, IfOk, IsErrAnd, Option, OnErr, ℕ, ap, inl, inr, map, refl, subst, sym}
 use Rattle.std.proofs.lemmas.Result.{err_from_is_err_and}
 use Rattle.sqlite_disk.specs.declared.Files.{Files}
 use Rattle.gaz_kept.specs.declared.refusal.StoreRefusal.TheVariants.{Fault}
-use Rattle.gaz_register.specs.Registers.{RegisterValue}
+use Rattle.gaz_register.specs.Drafts.{OrMemory}
+use Rattle.gaz_register.specs.Reading.{register_of}
+use Rattle.gaz_register.specs.Registers.{IsRegister, RegisterValue}
+use Rattle.gaz_register.proofs.Keyed.{reads-registers}
 use Rattle.gaz_stored.specs.Meetings.{AreMet, Meeting, WithPeers}
 use Rattle.gazhub.specs.Sites.{Closed, Deed, Does, FindsRegister, Met, NoRegister, Opened, NoFiles, WithFiles, WithRegister}
 use Rattle.gazhub.specs.declared.files.NoHub.{NoHub}
 use Rattle.gazhub.specs.declared.files.NoHub.TheVariants as none
 use Rattle.gazhub.specs.declared.site.Purpose.{Purpose}
+
+-- what is read as a register is one
+pub reads_one : (text : List ℕ) (register : RegisterValue) → OrMemory (Ok register) (register_of text) → IsRegister register
+reads_one text register (inl is) = reads-registers text register (sym is)
+reads_one text register (inr is) = absurd (cc)
 
 module _ {S D A : Type 0} (done : S → Deed D → S → Type 0) (before after : S) (path : List ℕ) where
   pub without_register : (Then : RegisterValue → S → S → Result A NoHub → Type 0) (told : Result A NoHub) (why : NoHub) → FindsRegister done before after path (Err why) → IsErrAnd told (λ e. e ≡ why)

@@ -1,13 +1,13 @@
 pub mod Playing
 pub mod Endings
-pub mod Filing
-pub mod Joined
 pub mod Changing
 pub mod Sites
 pub mod Working
 pub mod Serving
 pub mod Commands
 pub mod Desks
-pub mod WorkedJoined
+pub mod Openings
+pub mod Sessions
 pub mod WorkedSites
+pub mod WorkedSessions
 pub mod WorkedEndings

@@ -11,7 +11,7 @@ use Rattle.gaz_stored.specs.Serving.{AreSome}
 use Rattle.gaz_stored.specs.declared.attending.Unserved.{Unserved}
 use Rattle.gaz_stored.specs.declared.attending.Unserved.TheVariants.{NoPort, Unwritten}
 use Rattle.gaz_words.specs.declared.command.Places.{Places}
-use Rattle.gazhub.specs.Filing.{OpensNone, ServesStore}
+use Rattle.gaz_filing.specs.Filing.{OpensNone, ServesStore}
 use Rattle.gazhub.specs.Sites.{Closed, Deed, Does, Listened, Met, WithFiles, WithRegister}
 use Rattle.gaz_stored.specs.declared.connections.TheConstants.{MOST_REQUESTS}
 use Rattle.gazhub.specs.declared.ending.Ending.{Ending}

@@ -1,7 +1,7 @@
 -- What a command does where it reaches outside: it reads files, opens a store's, listens at a port
 -- and answers the peers that come.
 use Rattle.std.specs.Prelude.{◌≡◌, ◌^◌, ◌-◌, ℕ, suc, List, [], ◌∷◌, Option, Some}
-use Rattle.std.specs.Prelude.{None, Result, Ok, Err, option_map}
+use Rattle.std.specs.Prelude.{None, Result, Ok, Err, IfOk, option_map}
 use Rattle.std.specs.Global.{Vec}
 use Rattle.sqlite_disk.specs.declared.Files.{Files}
 use Rattle.gaz_ids.specs.Limits.{most_bytes}
@@ -9,7 +9,7 @@ use Rattle.gaz_kept.specs.declared.refusal.StoreRefusal.{StoreRefusal}
 use Rattle.gaz_kept.specs.declared.refusal.StoreRefusal.TheVariants.{Fault}
 use Rattle.gaz_register.specs.Drafts.{OrMemory}
 use Rattle.gaz_register.specs.Reading.{register_of}
-use Rattle.gaz_register.specs.Registers.{RegisterValue}
+use Rattle.gaz_register.specs.Registers.{IsRegister, RegisterValue}
 use Rattle.gaz_register.specs.declared.fault.RegFault.{RegFault}
 use Rattle.gaz_stored.specs.Meetings.{Meeting}
 use Rattle.gaz_words.specs.declared.command.Call.{Call}
@@ -71,6 +71,8 @@ module _ {S D : Type 0} (done : S → Deed D → S → Type 0) where
     pub bytes : Option (List ℕ)
     pub does : done before (Read path any_length bytes) after
     pub told : IsRegisterOf bytes found
+    -- as each text that is read gives one (`reads_registers`)
+    pub is_one : IfOk found IsRegister
 
   -- the store's files at a path were opened, or couldn't be
   abbrev pub FindsFiles : {O : Type 0} → S → S → List ℕ → Purpose → Result (Files D × O) NoHub

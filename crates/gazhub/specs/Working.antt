@@ -8,8 +8,8 @@ use Rattle.gaz_stored.specs.Asking.{asked}
 use Rattle.gaz_commands.specs.declared.said.Said.{Said}
 use Rattle.gaz_words.specs.declared.command.Call.{Call}
 use Rattle.gaz_words.specs.declared.command.Places.{Places}
-use Rattle.gazhub.specs.Filing.{AsksStore, ExtendsStore, MakesNone, MakesStore, MigratesNone}
-use Rattle.gazhub.specs.Filing.{MigratesStore, OpensNone}
+use Rattle.gaz_filing.specs.Filing.{AsksStore, ExtendsStore, MakesNone, MakesStore, MigratesNone}
+use Rattle.gaz_filing.specs.Filing.{MigratesStore, OpensNone}
 use Rattle.gazhub.specs.Changing.{said_of_growth, said_of_migration}
 use Rattle.gazhub.specs.Sites.{Closed, Deed, ReadsFor, WithFiles, WithRegister, of_store}
 use Rattle.gazhub.specs.declared.files.NoHub.{NoHub}

@@ -8,9 +8,8 @@ ghost use Rattle.gazhub.specs.Serving.{said_of_serving};
 
 use crate::ending::Ending;
 use crate::files::{NoHub, open_files, read_register};
-use crate::files_back::FilesBack;
 use crate::site::{Purpose, Site};
-use crate::stores::serve_store;
+use gaz_filing::{FilesBack, serve_store};
 use gaz_ledger::Seed;
 use gaz_register::Register;
 use gaz_store::StoreRefusal;

@@ -2,10 +2,9 @@
 ghost use Rattle.gazhub.specs.Working.{AskComesTo, InitComesTo};
 
 use crate::files::{NoHub, of_store, open_files, read_change_file, read_register};
-use crate::files_back::FilesBack;
 use crate::site::{Purpose, Site};
-use crate::stores::{ask_store, make_store};
 use gaz_commands::Said;
+use gaz_filing::{FilesBack, ask_store, make_store};
 use gaz_ledger::Seed;
 use gaz_words::{Call, Places};
 use std::alloc::Global;

@@ -25,6 +25,7 @@ pub enum NoHub {
     Memory,
 }
 
+#[tactic(auto, using(crate::proofs::Sites::reads_one))]
 /// The register whose file stands at a path.
 pub fn read_register<S: Site>(site: &mut S, alloc: Global, path: &str) -> Result<Register, NoHub>
     ensures { FindsRegister S.done site.old site.new path.now result }

@@ -1,47 +1,17 @@
 //! A store's register grows.
-ghost use Rattle.std.specs.Prelude.{◌≡◌, IfErr, IfOk, IsTrue};
-ghost use Rattle.gazhub.specs.Filing.{ExtendsStore, OpensNone};
+ghost use Rattle.std.specs.Prelude.{◌≡◌};
 ghost use Rattle.gazhub.specs.Changing.{not_extended, said_of_growth};
 ghost use Rattle.gazhub.specs.Working.{ExtendComesTo};
 
 use crate::files::{NoHub, open_files, read_register};
-use crate::files_back::FilesBack;
 use crate::site::{Purpose, Site};
-use crate::stores::{close, connect};
 use gaz_commands::{PrintedLine, Said};
+use gaz_filing::{FilesBack, extend_store};
 use gaz_ledger::Seed;
-use gaz_register::{GrowFault, Register};
+use gaz_register::GrowFault;
 use gaz_store::{ExtendFault, StoreRefusal};
-use gaz_stored::{Returned, extend_opened};
 use gaz_words::Places;
-use sqlite::{Files, Options};
-use sqlite_disk::Disk;
 use std::alloc::Global;
-
-/// Lets the register of the store in the files grow, which are given back where they can be closed.
-/// Why there is no store, or its register didn't grow, and in which order, is said of
-/// `extend_opened`.
-pub fn extend_store<D: Disk + Drop>(
-    alloc: Global,
-    files: Files<D>,
-    options: Options,
-    seed: Seed,
-    register: Register,
-    grown: Register,
-) -> FilesBack<D, Result<(), ExtendFault>>
-    requires log { IsTrue (D.Disk.is_usable files.log) }
-    requires db { IsTrue (D.Disk.is_usable files.db) }
-    ensures extends { IfOk result.told (ExtendsStore D.Disk files result.left register grown) }
-    ensures none { IfErr result.told (OpensNone D.Disk files result.left register) }
-{
-    let conn = match connect(alloc, files, options) {
-        Ok(conn) => conn,
-        Err(left) => return FilesBack::unconnected(left),
-    };
-    let Returned { conn, told } = extend_opened(alloc, seed, conn, register, grown);
-    let left = close(conn);
-    FilesBack { left, told }
-}
 
 // What is said where a store's register didn't grow: that what it was to grow to is no growth of it
 // is printed, the others are faults.

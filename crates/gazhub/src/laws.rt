@@ -1,38 +1,32 @@
 //! What a reader of the definitions may rely on.
 ghost use Rattle.std.specs.Prelude.{ℕ, List};
 ghost use Rattle.gaz_exchange.specs.Conversing.{Transfer};
-ghost use Rattle.gazhub.specs.Joined.{CallsAreOne, NextOpens};
+ghost use Rattle.gazhub.specs.Sessions.{SessionsAreOne};
 ghost use Rattle.gazhub.specs.WorkedEndings.{WorkedEndings};
-ghost use Rattle.gazhub.specs.WorkedJoined.{WorkedJoined};
+ghost use Rattle.gazhub.specs.WorkedSessions.{WorkedSessions};
 ghost use Rattle.gazhub.specs.WorkedSites.{WorkedSites};
 ghost use Rattle.gazhub.specs.declared.ending.Ending.{Ending};
 
 use crate::site::Site;
 use sqlite_disk::Disk;
 
-/// Calls over the same files, each of which is given what the one before gave back, or shows what a
-/// stop left of it, under whatever register, refused or not: they are one run of one hub over
-/// registers of which each extends the one before, and leave a store of the last, with each file
-/// that one of them received. They begin with a store that is there, was made or was migrated.
-pub fn calls_are_one<D: Disk>()
-    ensures { CallsAreOne D.Disk }
-{}
-
-/// Whoever opens the files that were given back of a store, under its register, is told `Ok` or
-/// `Fault`, and never that there is no store, or one of another register; and so it is of what a
-/// call or a migration over them tells.
-pub fn next_opens<D: Disk>()
-    ensures { NextOpens D.Disk }
-{}
-
-/// Which calls are one after another, on worked examples.
-pub fn worked_joined<D: Disk>()
-    ensures { WorkedJoined D.Disk }
+/// Commands one after another, as `command` says of each, at a site that keeps a store's files:
+/// over these they are one run of one hub, whatever their words and however often each of them
+/// opened the files. They begin with a store that is there or that the first opening makes; each
+/// opening is a call, on a disk that returns what was written, and no failure shuts the connection
+/// of the last. A command that a stop cuts off is none of them.
+pub fn sessions_are_one<S: Site>()
+    ensures { (text : List ℕ) (most : ℕ) → SessionsAreOne S.Medium.Disk S.done text most }
 {}
 
 /// What is done at a site, and how the program ends, on worked examples.
 pub fn worked_sites<D: Disk>()
     ensures { WorkedSites D.Disk }
+{}
+
+/// What commands that are given one after another leave of a store's files, on worked examples.
+pub fn worked_sessions<S: Site>()
+    ensures { WorkedSessions S.done S.Medium.Disk }
 {}
 
 /// How the program ends at words, on worked examples.

@@ -8,7 +8,6 @@ mod commands;
 mod desk;
 mod ending;
 mod files;
-mod files_back;
 mod growing;
 mod host;
 mod laws;
@@ -18,7 +17,6 @@ mod port;
 mod program;
 mod sample;
 mod site;
-mod stores;
 #[cfg(test)]
 mod trials;
 

@@ -1,5 +1,5 @@
 use Rattle.gaz_stored.specs.declared.connections.TheConstants.{MOST_REQUESTS}
-use Rattle.gazhub.specs.Filing.{ServesStore}
+use Rattle.gaz_filing.specs.Filing.{ServesStore}
 use Rattle.gazhub.proofs.Serving.{silent_of, some_of}
 use Rattle.gazhub.proofs.Sites.{met_in}
 use Rattle.gazhub.proofs.attending.serve_in.Goals as goal

@@ -1,6 +1,6 @@
 use Rattle.std.proofs.Common.{IfOk, subst}
 use Rattle.gaz_stored.specs.Asking.{asked}
-use Rattle.gazhub.specs.Filing.{AsksStore}
+use Rattle.gaz_filing.specs.Filing.{AsksStore}
 use Rattle.gazhub.specs.Sites.{HasRegister, HasFiles, bytes_of}
 use Rattle.gazhub.proofs.Sites.{without_files, without_register}
 use Rattle.gazhub.proofs.commands.ask.Goals as goal

@@ -21,7 +21,7 @@ returns g c = record {
   not_more = λ e. absurd (cc);
   register_there = refl;
   change_there = refl;
-  unreadable = λ path. record { bytes = None; does = refl; told = refl };
+  unreadable = λ path. record { bytes = None; does = refl; told = refl; is_one = tt };
   not_found = λ path register it.
       let bytes : it.bytes ≡ None = let does = it.does in cc in
       rw bytes at it.told;

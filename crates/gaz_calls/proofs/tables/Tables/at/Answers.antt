@@ -13,5 +13,5 @@ returns g c =
     answered _ _ _ _ _ _ c.newest_until.ensures (λ db kept found reached.
     let most = reached_most (rows_of db received) kept.files c.args.code (kept.first c.args.code) in
     let within : c.args.volume ≤ 999_999 = omega (arith, most, reached) in
-    c.item_after.ensures ∙ at_told db c.args.code c.args.key.now c.in_ok-life.life kept c.args.volume c.capped.result (c.capped.ensures within)
+    c.item_after.ensures ∙ at_told db c.args.code c.args.key.now c.in_ok-life.life kept c.args.volume c.capped.result (c.capped.ensures.within within)
     (subst (λ r. IfOk r (IsNewestUntil c.capped.result (histories_in (rows_of db version2) c.args.code) c.args.key.now)) c.in_ok-life.was found))

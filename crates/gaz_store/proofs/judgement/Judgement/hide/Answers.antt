@@ -1,4 +1,4 @@
-use Rattle.std.proofs.Common.{◌∙◌, ap, subst, sym}
+use Rattle.std.proofs.Common.{◌∙◌, subst, sym}
 use Rattle.gaz_overlay.specs.Changes.{is_touched}
 use Rattle.gaz_calls.proofs.Answered.{answered_ok}
 use Rattle.gaz_calls.proofs.Composing.{asked_nothing}

@@ -1,0 +1,65 @@
+-- What is said of what was done over a store's files, or why it wasn't.
+use Rattle.std.proofs.Common.{◌≡◌, ◌≢◌, ◌↔◌, Ok, Err, Option, Result, IsTrue, IfErr, ap, inl, inr, refl}
+use Rattle.std.specs.declared.marker.Brand.{Brand}
+use Rattle.sqlite.specs.Files.{file_state, over_files}
+use Rattle.sqlite.specs.Held.{Held}
+use Rattle.sqlite_disk.specs.declared.Disk as disk
+use Rattle.sqlite_disk.specs.declared.Files.{Files}
+use Rattle.sqlite_store.specs.declared.store.FileStore.{FileStore}
+use Rattle.gaz_tables.specs.Creating.{MayCreate}
+use Rattle.gaz_kept.specs.Opening.{Untouched, has_any, schema_number}
+use Rattle.gaz_kept.specs.declared.refusal.StoreRefusal.{StoreRefusal}
+use Rattle.gaz_kept.specs.declared.refusal.StoreRefusal.TheVariants.{BadSchema, OtherRegister, Fault}
+use Rattle.gaz_register.specs.Registers.{RegisterValue}
+use Rattle.gaz_register.specs.Texts.{register_text}
+use Rattle.gaz_store.specs.Opened.{IsRefused, answer_of}
+use Rattle.gaz_store.specs.declared.store.Store.{Store}
+use Rattle.gaz_stored.specs.Migrating as migrating
+use Rattle.gaz_stored.specs.Migrating.{StopsMoving}
+use Rattle.gaz_stored.specs.Using as stored
+use Rattle.gaz_stored.specs.declared.migrating.Migration.{Migration}
+use Rattle.gaz_filing.specs.Filing.{Closes, Connects, FindsTables, HandedBack, HasNoNewStore, HasNoStore, MakesNone, MigratesNone, OpensNone, OverFiles}
+
+-- what is told is told for this reason
+why_is : {T : Type 0} {refusal why : StoreRefusal} → ◌≡◌ {A = Result T StoreRefusal} (Err refusal) (Err why) → refusal ≡ why
+why_is is = cc
+
+module _ {D : Type 0} (g : disk.Ghosts D) (files : Files D) (left : Option (Files D)) (conn back : Held (FileStore D g)) (connects : Connects g files conn) (closes : Closes g back left) where
+  pub over : (Does : Held (FileStore D g) → Held (FileStore D g) → Type 0) → Does conn back → OverFiles g files left Does
+  over Does does = record { conn = conn; after = back; connects = connects; does = does; closes = closes }
+
+  module _ (register : RegisterValue) where
+    pub opens_none : {T : Type 0} (held : Result T StoreRefusal) → stored.LacksStore over_files register conn back held → IfErr held (OpensNone g files left register)
+    opens_none (Ok told) lacks = tt
+    opens_none (Err refusal) lacks =
+        let why : HasNoStore g register refusal conn back =
+        record { lacking = λ none. ap Err (why_is (lacks.lacking none)); rows = lacks.rows; judged = lacks.judged; over = lacks.over; untouched = lacks.untouched } in
+        HandedBack (over _ why)
+
+    pub migrates_none : (held : Result Migration StoreRefusal) → StopsMoving over_files register conn back → migrating.LacksBoth over_files register conn back held → IfErr held (MigratesNone g files left register)
+    migrates_none (Ok told) stops lacks = tt
+    migrates_none (Err refusal) stops lacks =
+        let why : migrating.LacksBoth over_files register conn back {T = Unit {0}} (Err refusal) =
+        record {
+          lacking = λ none none_first. ap Err (why_is (lacks.lacking none none_first));
+          rows = lacks.rows;
+          judged = lacks.judged;
+          rows_first = lacks.rows_first;
+          judged_first = lacks.judged_first;
+          refused = lacks.refused;
+        } in
+        HandedBack (over _ (why, stops))
+
+  -- why none was made
+  module _ (result : Result (Store (FileStore D g) Brand over_files) (Held (FileStore D g) × StoreRefusal)) (refused : IsRefused over_files conn back)
+      (named : (answer_of result ≡ Err BadSchema) ↔ IsTrue (has_any (file_state conn).now.schema)) (causes : answer_of result ≢ Err OtherRegister)
+      (untouched : IsTrue (has_any (file_state conn).now.schema) → Untouched over_files conn back) where
+    finds_tables : (refusal : StoreRefusal) → result ≡ Err (back, refusal) → FindsTables g refusal conn back
+    finds_tables BadSchema is = let any = named.0 (rw is refl) in inr (refl, any, untouched any)
+    finds_tables OtherRegister is = absurd (causes (rw is refl))
+    finds_tables Fault is = inl refl
+
+    pub makes_none : (register : RegisterValue) → MayCreate over_files conn back schema_number (register_text register) → (refusal : StoreRefusal) → result ≡ Err (back, refusal) → MakesNone g files left register refusal
+    makes_none register leaves refusal is =
+        let why : HasNoNewStore g register refusal conn back = record { refused = refused; why = finds_tables refusal is; leaves = leaves } in
+        HandedBack (over _ why)

@@ -1,0 +1,2 @@
+mod Filing
+pub mod Joining

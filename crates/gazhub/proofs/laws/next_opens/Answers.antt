@@ -1,5 +1,0 @@
-use Rattle.gazhub.proofs.Joining.{next_opens}
-use Rattle.gazhub.proofs.laws.next_opens.Goals as goal
-
-pub returns : goal.returns
-returns g c = next_opens g.D.Disk
