@@ -2,10 +2,10 @@
 -- order in which they stand, and before the change file.
 use Rattle.std.specs.Prelude.{ℕ, List, Option, Some, None, Result, Ok, Err}
 use Rattle.gaz_ids.specs.Numbers.{read_code, read_uprn, read_volume}
-use Rattle.gaz_hub.specs.Step.{Command, Pose, Submit}
-use Rattle.gaz_hub.specs.declared.question.Question.TheVariants.{Extract, LookUp, Stand}
+use Rattle.gaz_steps.specs.Step.{Command, Pose, Submit}
+use Rattle.gaz_steps.specs.declared.question.Question.TheVariants.{Extract, LookUp, Stand}
 use Rattle.gaz_commands.specs.Saying.{turned_away}
-use Rattle.gaz_hub.specs.declared.refusal.DoorRefusal.TheVariants as door
+use Rattle.gaz_steps.specs.declared.refusal.DoorRefusal.TheVariants as door
 use Rattle.gaz_commands.specs.declared.printed.PrintedLine.TheVariants as line
 use Rattle.gaz_commands.specs.declared.said.CommandFault.TheVariants as fault
 use Rattle.gaz_commands.specs.declared.said.Said.{Said}

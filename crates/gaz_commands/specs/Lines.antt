@@ -2,10 +2,10 @@
 use Rattle.std.specs.Prelude.{ℕ, Bool, true, false, List, ◌++◌, codes, Option, Some, None}
 use Rattle.std.specs.Fmt.{decimal}
 use Rattle.hex.specs.Hex.{encode_lower}
-use Rattle.gaz_hub.specs.DoorNumbers.{door_number}
-use Rattle.gaz_hub.specs.declared.outcome.Outcome.{Outcome}
-use Rattle.gaz_hub.specs.declared.outcome.Outcome.TheVariants.{Applied, Rejected, Held}
-use Rattle.gaz_hub.specs.declared.standing.Standing.{Standing}
+use Rattle.gaz_steps.specs.DoorNumbers.{door_number}
+use Rattle.gaz_steps.specs.declared.outcome.Outcome.{Outcome}
+use Rattle.gaz_steps.specs.declared.outcome.Outcome.TheVariants.{Applied, Rejected, Held}
+use Rattle.gaz_steps.specs.declared.standing.Standing.{Standing}
 use Rattle.gaz_register.specs.declared.growth.GrowFault.{GrowFault}
 use Rattle.gaz_register.specs.declared.growth.GrowFault.TheVariants.{RemovedCustodian}
 use Rattle.gaz_register.specs.declared.growth.GrowFault.TheVariants.{ChangedBlocks}

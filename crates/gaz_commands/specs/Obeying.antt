@@ -1,9 +1,9 @@
 -- What a command does to a hub.
 use Rattle.std.specs.Prelude.{◌≡◌, Result, Ok, Err}
 use Rattle.gaz_keeper.specs.Keeper.{Seen}
-use Rattle.gaz_hub.specs.Hubs.{MeetsDoor, door_of}
+use Rattle.gaz_steps.specs.Hubs.{MeetsDoor, door_of}
 use Rattle.gaz_hub.specs.Seen.{hub_seen}
-use Rattle.gaz_hub.specs.Step.{Command, Response}
+use Rattle.gaz_steps.specs.Step.{Command, Response}
 use Rattle.gaz_hub.specs.Telling.{StepsTo}
 use Rattle.gaz_hub.specs.declared.hub.Hub.{Hub}
 use Rattle.gaz_commands.specs.Saying.{said_to}

@@ -2,16 +2,16 @@
 -- was done.
 use Rattle.std.specs.Prelude.{ℕ, Bool, true, false, List, [], ◌++◌, codes, Option, Some, None}
 use Rattle.std.specs.Prelude.{Result, Ok, Err}
-use Rattle.gaz_hub.specs.Posing.{telling}
-use Rattle.gaz_hub.specs.Step.{Replied, Response, Submitted}
-use Rattle.gaz_hub.specs.declared.answer.Answer.{Answer}
-use Rattle.gaz_hub.specs.declared.answer.Answer.TheVariants as answer
-use Rattle.gaz_hub.specs.declared.refusal.Refusal.{Refusal}
-use Rattle.gaz_hub.specs.declared.refusal.Refusal.TheVariants as refusal
-use Rattle.gaz_hub.specs.declared.question.Told.{Told}
-use Rattle.gaz_hub.specs.declared.question.Told.TheVariants as told
+use Rattle.gaz_steps.specs.ToldOn.{telling}
+use Rattle.gaz_steps.specs.Step.{Replied, Response, Submitted}
+use Rattle.gaz_steps.specs.declared.answer.Answer.{Answer}
+use Rattle.gaz_steps.specs.declared.answer.Answer.TheVariants as answer
+use Rattle.gaz_steps.specs.declared.refusal.Refusal.{Refusal}
+use Rattle.gaz_steps.specs.declared.refusal.Refusal.TheVariants as refusal
+use Rattle.gaz_steps.specs.declared.question.Told.{Told}
+use Rattle.gaz_steps.specs.declared.question.Told.TheVariants as told
 use Rattle.gaz_commands.specs.Lines.{is_done, line_text}
-use Rattle.gaz_hub.specs.declared.refusal.DoorRefusal.{DoorRefusal}
+use Rattle.gaz_steps.specs.declared.refusal.DoorRefusal.{DoorRefusal}
 use Rattle.gaz_commands.specs.declared.printed.PrintedLine.TheVariants as line
 use Rattle.gaz_commands.specs.declared.said.CommandFault.{CommandFault}
 use Rattle.gaz_commands.specs.declared.said.CommandFault.TheVariants as fault

@@ -2,17 +2,17 @@
 use Rattle.std.specs.Prelude.{◌≡◌, ℕ, Bool, true, false, List, [], ◌∷◌, codes, Some, None, Ok}
 use Rattle.std.specs.Prelude.{Err}
 use Rattle.gaz_keeper.specs.declared.fault.ShelfFault.TheVariants as cause
-use Rattle.gaz_hub.specs.Step.{Pose, Replied, Response, Submit, Submitted}
-use Rattle.gaz_hub.specs.declared.answer.Answer.{Answer}
-use Rattle.gaz_hub.specs.declared.answer.Answer.TheVariants as answer
-use Rattle.gaz_hub.specs.declared.outcome.Outcome.TheVariants.{Applied, Rejected, Held}
-use Rattle.gaz_hub.specs.declared.question.Question.TheVariants.{Extract, LookUp, Stand}
-use Rattle.gaz_hub.specs.declared.refusal.Refusal.TheVariants as refusal
-use Rattle.gaz_hub.specs.declared.standing.Standing.{Standing}
+use Rattle.gaz_steps.specs.Step.{Pose, Replied, Response, Submit, Submitted}
+use Rattle.gaz_steps.specs.declared.answer.Answer.{Answer}
+use Rattle.gaz_steps.specs.declared.answer.Answer.TheVariants as answer
+use Rattle.gaz_steps.specs.declared.outcome.Outcome.TheVariants.{Applied, Rejected, Held}
+use Rattle.gaz_steps.specs.declared.question.Question.TheVariants.{Extract, LookUp, Stand}
+use Rattle.gaz_steps.specs.declared.refusal.Refusal.TheVariants as refusal
+use Rattle.gaz_steps.specs.declared.standing.Standing.{Standing}
 use Rattle.gaz_register.specs.declared.growth.GrowFault.TheVariants as growth
 use Rattle.gaz_commands.specs.Asking.{asks_address, asks_extract, asks_standing, asks_to_submit}
 use Rattle.gaz_commands.specs.Saying.{error_line, is_said_done, said_to, text_of, turned_away}
-use Rattle.gaz_hub.specs.declared.refusal.DoorRefusal.TheVariants as door
+use Rattle.gaz_steps.specs.declared.refusal.DoorRefusal.TheVariants as door
 use Rattle.gaz_commands.specs.declared.printed.PrintedLine.TheVariants as line
 use Rattle.gaz_commands.specs.declared.said.CommandFault.{CommandFault}
 use Rattle.gaz_commands.specs.declared.said.CommandFault.TheVariants as fault

@@ -1,7 +1,7 @@
 //! What each command asks of a hub.
 ghost use Rattle.std.specs.Prelude.{◌≡◌, option_map};
 ghost use Rattle.gaz_keeper.specs.Telling.{IsNotJudging};
-ghost use Rattle.gaz_hub.specs.Step.{Pose};
+ghost use Rattle.gaz_steps.specs.Step.{Pose};
 ghost use Rattle.gaz_commands.specs.Asking.{asks_address, asks_extract, asks_standing};
 ghost use Rattle.gaz_commands.specs.Asking.{asks_to_submit};
 ghost use Rattle.gaz_commands.specs.Obeying.{IsAnswered, Obeys};
@@ -9,8 +9,9 @@ ghost use Rattle.gaz_commands.specs.Obeying.{IsAnswered, Obeys};
 use crate::numbers::{code_named, uprn_named, volume_named};
 use crate::printed::PrintedLine;
 use crate::said::{CommandFault, Said, turned_away};
-use gaz_hub::{DoorRefusal, Hub, Question};
+use gaz_hub::Hub;
 use gaz_keeper::Inbox;
+use gaz_steps::{DoorRefusal, Question};
 
 /// Submits a change file, whose bytes are given where it could be read.
 ///

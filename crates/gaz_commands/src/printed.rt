@@ -5,9 +5,9 @@ ghost use Rattle.gaz_commands.specs.Lines.{became_text, growth_number, is_done, 
 ghost use Rattle.gaz_commands.specs.Lines.{pair_text, standing_text, wanted_text};
 
 use gaz_extract::AddressLine;
-use gaz_hub::{Digest, DoorRefusal, Outcome, Standing};
 use gaz_ids::{Code, Volume};
 use gaz_register::GrowFault;
+use gaz_steps::{Digest, DoorRefusal, Outcome, Standing};
 use std::fmt;
 
 // The number that is printed where a register is no growth of a store's.

@@ -5,7 +5,7 @@ ghost use Rattle.gaz_commands.specs.Saying.{said_of_told, said_refused, said_tol
 
 use crate::printed::PrintedLine;
 use gaz_extract::AddressLine;
-use gaz_hub::{Answer, DoorRefusal, ExtractText, Refusal, Told};
+use gaz_steps::{Answer, DoorRefusal, ExtractText, Refusal, Told};
 
 /// A fault, which standard error names.
 #[derive(Clone, Copy, PartialEq, Eq)]

@@ -9,8 +9,8 @@ use Rattle.std.proofs.lemmas.Str.{IsUtf8-from_ascii}
 use Rattle.std.proofs.lemmas.Str.Ascii.{IsAscii-cons, IsAscii-nil}
 use Rattle.std.specs.Str.{IsAscii}
 use Rattle.gaz_fields.specs.Labels.{are_label_bytes, is_label, is_label_byte}
-use Rattle.gaz_hub.specs.declared.question.Told.{Told}
-use Rattle.gaz_hub.specs.declared.question.Told.TheVariants as told
+use Rattle.gaz_steps.specs.declared.question.Told.{Told}
+use Rattle.gaz_steps.specs.declared.question.Told.TheVariants as told
 use Rattle.gaz_exchange.specs.Replies.{is_extract, message, reply_text, takes_memory, told_text}
 use Rattle.gaz_exchange.specs.Sending.{head_of}
 use Rattle.gaz_exchange.specs.declared.reply.Reply.TheVariants as reply

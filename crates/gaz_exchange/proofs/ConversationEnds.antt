@@ -4,10 +4,10 @@ use Rattle.std.specs.Prelude.{◌==◌, if◌then◌else◌}
 use Rattle.std.specs.Io.KnownBytes.{Keeps}
 use Rattle.std.proofs.KnownBytes.{Appends-kept}
 use Rattle.gaz_keeper.specs.Keeper.{Seen}
-use Rattle.gaz_hub.specs.Answers.{AllAnswered}
-use Rattle.gaz_hub.specs.Hubs.{Runs, StandsFor, state_of}
-use Rattle.gaz_hub.specs.Step.{Command, Door, Response}
-use Rattle.gaz_hub.proofs.Answers.{every_answer_holds}
+use Rattle.gaz_steps.specs.Answers.{AllAnswered}
+use Rattle.gaz_steps.specs.Hubs.{Runs, StandsFor, state_of}
+use Rattle.gaz_steps.specs.Step.{Command, Door, Response}
+use Rattle.gaz_steps.proofs.Answers.{every_answer_holds}
 use Rattle.gaz_http.specs.declared.supply.Cause.TheVariants.{WriteFault}
 use Rattle.gaz_exchange.specs.declared.conversation.Served.{Served}
 use Rattle.gaz_exchange.specs.declared.conversation.Stopped.{Stopped}

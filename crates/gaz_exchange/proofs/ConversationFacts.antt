@@ -7,9 +7,9 @@ use Rattle.std.proofs.lemmas.Bool.Decides.{nat_tests}
 use Rattle.std.proofs.lemmas.List.Elements.{All-append, All-cons, All-nil, filter_map-append}
 use Rattle.std.specs.List.{All}
 use Rattle.gaz_keeper.specs.Keeper.{Seen}
-use Rattle.gaz_hub.specs.Hubs.{Runs}
-use Rattle.gaz_hub.specs.Step.{Door}
-use Rattle.gaz_hub.proofs.HubRuns.{runs_none, runs_still, runs_then}
+use Rattle.gaz_steps.specs.Hubs.{Runs}
+use Rattle.gaz_steps.specs.Step.{Door}
+use Rattle.gaz_steps.proofs.HubRuns.{runs_none, runs_still, runs_then}
 use Rattle.gaz_http.specs.Headers.{is_closing}
 use Rattle.gaz_http.specs.Sparing.{OneForEach, OneForEachUsed}
 use Rattle.gaz_http.specs.declared.supply.Cause.{Cause}

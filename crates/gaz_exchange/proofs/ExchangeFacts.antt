@@ -4,8 +4,8 @@ use Rattle.std.specs.Prelude.{◌&&◌, ◌||◌, not, nat_lt, ◌==◌, IsTrue}
 use Rattle.std.specs.List.{list_all}
 use Rattle.std.proofs.lemmas.Bool.Decides.{nat_tests}
 use Rattle.std.proofs.lemmas.List.Folds.{list_all-append}
-use Rattle.gaz_hub.specs.Hubs.{IsToldAtDoor}
-use Rattle.gaz_hub.specs.Step.{Command, Door, Response}
+use Rattle.gaz_steps.specs.Hubs.{IsToldAtDoor}
+use Rattle.gaz_steps.specs.Step.{Command, Door, Response}
 use Rattle.gaz_http.specs.Headers.{is_closing}
 use Rattle.gaz_http.proofs.HeadFacts.{begins_more}
 use Rattle.gaz_exchange.specs.Asking.{asked}

@@ -4,8 +4,8 @@ use Rattle.std.specs.Prelude.{◌||◌}
 use Rattle.std.specs.Io.KnownBytes.{Consumes, IsAtEnd, Keeps}
 use Rattle.httparse.specs.Grammar.{RequestHead}
 use Rattle.gaz_keeper.specs.Keeper.{Seen}
-use Rattle.gaz_hub.specs.Step.{Command, Door, Response}
-use Rattle.gaz_hub.proofs.HubRuns.{runs_none, runs_one}
+use Rattle.gaz_steps.specs.Step.{Command, Door, Response}
+use Rattle.gaz_steps.proofs.HubRuns.{runs_none, runs_one}
 use Rattle.gaz_http.specs.Headers.{is_closing}
 use Rattle.gaz_http.specs.Heads.{IsOver}
 use Rattle.gaz_http.specs.Sparing.{OneForEach, OneForEachUsed}

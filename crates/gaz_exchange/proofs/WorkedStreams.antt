@@ -11,12 +11,12 @@ use Rattle.httparse.proofs.GrammarLemmas.{request_unique}
 use Rattle.httparse.proofs.OnLiterals.{httparse_on_literals}
 use Rattle.json.proofs.Printed.Utf8.{IsUtf8-are_ascii, are_ascii}
 use Rattle.gaz_ids.specs.Numbers.{read_id}
-use Rattle.gaz_hub.specs.Hubs.{IsToldAtDoor, door_of}
-use Rattle.gaz_hub.specs.Step.{Pose, Replied}
+use Rattle.gaz_steps.specs.Hubs.{IsToldAtDoor, door_of}
+use Rattle.gaz_steps.specs.Step.{Pose, Replied}
 use Rattle.gaz_hub.specs.WorkedHubs.{upper_and_lower}
-use Rattle.gaz_hub.specs.declared.question.Question.TheVariants.{Ask}
-use Rattle.gaz_hub.specs.declared.refusal.DoorRefusal.TheVariants.{UnknownCustodian}
-use Rattle.gaz_hub.specs.declared.refusal.Refusal.TheVariants as refusal
+use Rattle.gaz_steps.specs.declared.question.Question.TheVariants.{Ask}
+use Rattle.gaz_steps.specs.declared.refusal.DoorRefusal.TheVariants.{UnknownCustodian}
+use Rattle.gaz_steps.specs.declared.refusal.Refusal.TheVariants as refusal
 use Rattle.gaz_http.specs.Headers.{is_closing}
 use Rattle.gaz_http.specs.Heads.{BeginsWith}
 use Rattle.gaz_http.specs.WorkedClosings.{head, header}

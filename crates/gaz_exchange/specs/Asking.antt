@@ -3,10 +3,10 @@ use Rattle.std.specs.Prelude.{ℕ, if◌then◌else◌, List, codes, bytes_eq, O
 use Rattle.std.specs.Prelude.{Ok, Err}
 use Rattle.httparse.specs.Grammar.{RequestHead}
 use Rattle.gaz_ids.specs.Numbers.{read_uprn}
-use Rattle.gaz_hub.specs.Step.{Command}
-use Rattle.gaz_hub.specs.Step as hub
-use Rattle.gaz_hub.specs.declared.question.Question.TheVariants.{Ask, ListClosed, LookUp, Stand}
-use Rattle.gaz_hub.specs.declared.question.Question.TheVariants as question
+use Rattle.gaz_steps.specs.Step.{Command}
+use Rattle.gaz_steps.specs.Step as hub
+use Rattle.gaz_steps.specs.declared.question.Question.TheVariants.{Ask, ListClosed, LookUp, Stand}
+use Rattle.gaz_steps.specs.declared.question.Question.TheVariants as question
 use Rattle.gaz_exchange.specs.Targets.{Target, Volume, Custodian, Extract, Property, Closed}
 use Rattle.gaz_exchange.specs.Targets.{Nowhere, target_of, code_in, volume_in}
 use Rattle.gaz_exchange.specs.declared.fault.Allowed.TheVariants as allowed

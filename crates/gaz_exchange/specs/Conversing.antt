@@ -5,9 +5,9 @@ use Rattle.std.specs.List.{All}
 use Rattle.std.specs.Io.KnownBytes.{Appends, Consumes, IsAtEnd}
 use Rattle.gaz_keeper.specs.Keeper.{Seen}
 use Rattle.gaz_keeper.specs.Received.{Received}
-use Rattle.gaz_hub.specs.Answers.{AllAnswered}
-use Rattle.gaz_hub.specs.Hubs.{Runs, StandsFor}
-use Rattle.gaz_hub.specs.Step.{Command, Door, Response}
+use Rattle.gaz_steps.specs.Answers.{AllAnswered}
+use Rattle.gaz_steps.specs.Hubs.{Runs, StandsFor}
+use Rattle.gaz_steps.specs.Step.{Command, Door, Response}
 use Rattle.gaz_http.specs.Failing.{HasFailed, NeverFails}
 use Rattle.gaz_http.specs.Sparing.{OneForEach, OneForEachUsed}
 use Rattle.gaz_http.specs.declared.supply.Cause.TheVariants.{ReadFault}

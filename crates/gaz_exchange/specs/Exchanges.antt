@@ -6,8 +6,8 @@ use Rattle.std.specs.Option.{option_and_then}
 use Rattle.std.specs.List.{flat_map, filter_map, list_all}
 use Rattle.std.specs.Result.{result_ok}
 use Rattle.httparse.specs.Grammar.{RequestHead}
-use Rattle.gaz_hub.specs.Hubs.{IsToldAtDoor}
-use Rattle.gaz_hub.specs.Step.{Command, Door, Response}
+use Rattle.gaz_steps.specs.Hubs.{IsToldAtDoor}
+use Rattle.gaz_steps.specs.Step.{Command, Door, Response}
 use Rattle.gaz_http.specs.Headers.{is_closing}
 use Rattle.gaz_http.specs.Heads.{BeginsWith}
 use Rattle.gaz_exchange.specs.Asking.{asked}

@@ -1,12 +1,12 @@
 -- The refusals by number, and their status (RFC 9110, section 15).
 use Rattle.std.specs.Prelude.{ℕ, List, [], codes}
-use Rattle.gaz_hub.specs.DoorNumbers.{door_number}
-use Rattle.gaz_hub.specs.declared.refusal.DoorRefusal.{DoorRefusal}
-use Rattle.gaz_hub.specs.declared.refusal.DoorRefusal.TheVariants.{BadVolume, TooLarge}
-use Rattle.gaz_hub.specs.declared.refusal.DoorRefusal.TheVariants.{UnknownCustodian}
-use Rattle.gaz_hub.specs.declared.refusal.DoorRefusal.TheVariants.{UnknownProfile}
-use Rattle.gaz_hub.specs.declared.refusal.Refusal.{Refusal}
-use Rattle.gaz_hub.specs.declared.refusal.Refusal.TheVariants as hub
+use Rattle.gaz_steps.specs.DoorNumbers.{door_number}
+use Rattle.gaz_steps.specs.declared.refusal.DoorRefusal.{DoorRefusal}
+use Rattle.gaz_steps.specs.declared.refusal.DoorRefusal.TheVariants.{BadVolume, TooLarge}
+use Rattle.gaz_steps.specs.declared.refusal.DoorRefusal.TheVariants.{UnknownCustodian}
+use Rattle.gaz_steps.specs.declared.refusal.DoorRefusal.TheVariants.{UnknownProfile}
+use Rattle.gaz_steps.specs.declared.refusal.Refusal.{Refusal}
+use Rattle.gaz_steps.specs.declared.refusal.Refusal.TheVariants as hub
 use Rattle.gaz_exchange.specs.declared.fault.Allowed.TheVariants.{Get, GetAndPost}
 use Rattle.gaz_exchange.specs.declared.fault.Fault.{Fault}
 use Rattle.gaz_exchange.specs.declared.fault.Fault.TheVariants.{Door, NotThere, BadRequest}

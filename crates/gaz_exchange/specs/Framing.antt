@@ -5,7 +5,7 @@ use Rattle.std.specs.Str.{all_ascii_digits}
 use Rattle.std.specs.Str.Parse.{digits_value}
 use Rattle.httparse.specs.Grammar.{RequestHead}
 use Rattle.gaz_ids.specs.Limits.{most_bytes}
-use Rattle.gaz_hub.specs.declared.refusal.DoorRefusal.TheVariants.{TooLarge}
+use Rattle.gaz_steps.specs.declared.refusal.DoorRefusal.TheVariants.{TooLarge}
 use Rattle.gaz_http.specs.Headers.{Header, count_of, headers_of, value_of}
 use Rattle.gaz_exchange.specs.declared.fault.Fault.TheVariants.{BadRequest, Door}
 use Rattle.gaz_exchange.specs.declared.fault.Fault.TheVariants.{LengthRequired}

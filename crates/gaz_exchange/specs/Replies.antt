@@ -8,15 +8,15 @@ use Rattle.serde_json.specs.Data as json
 use Rattle.serde_json.specs.Written.{compact_text}
 use Rattle.gaz_ids.specs.Codes.{status_number}
 use Rattle.gaz_extract.specs.declared.closed.Closed.{Closed}
-use Rattle.gaz_hub.specs.Posing.{telling}
-use Rattle.gaz_hub.specs.Step.{Replied, Response, Submitted}
-use Rattle.gaz_hub.specs.declared.answer.Answer.{Answer}
-use Rattle.gaz_hub.specs.declared.answer.Answer.TheVariants as answer
-use Rattle.gaz_hub.specs.declared.outcome.Outcome.{Outcome}
-use Rattle.gaz_hub.specs.declared.outcome.Outcome.TheVariants.{Applied, Rejected, Held}
-use Rattle.gaz_hub.specs.declared.refusal.Refusal.{Refusal}
-use Rattle.gaz_hub.specs.declared.question.Told.{Told}
-use Rattle.gaz_hub.specs.declared.question.Told.TheVariants as told
+use Rattle.gaz_steps.specs.ToldOn.{telling}
+use Rattle.gaz_steps.specs.Step.{Replied, Response, Submitted}
+use Rattle.gaz_steps.specs.declared.answer.Answer.{Answer}
+use Rattle.gaz_steps.specs.declared.answer.Answer.TheVariants as answer
+use Rattle.gaz_steps.specs.declared.outcome.Outcome.{Outcome}
+use Rattle.gaz_steps.specs.declared.outcome.Outcome.TheVariants.{Applied, Rejected, Held}
+use Rattle.gaz_steps.specs.declared.refusal.Refusal.{Refusal}
+use Rattle.gaz_steps.specs.declared.question.Told.{Told}
+use Rattle.gaz_steps.specs.declared.question.Told.TheVariants as told
 use Rattle.gaz_exchange.specs.Faults.{allow_of, fault_of, number_of, status_of}
 use Rattle.gaz_exchange.specs.declared.fault.Fault.{Fault}
 use Rattle.gaz_exchange.specs.declared.fault.Fault.TheVariants.{NotThere, NotReceived, Unsettled}

@@ -3,8 +3,8 @@ use Rattle.std.specs.Prelude.{◌≡◌, ◌≢◌, ◌⊎◌, ◌||◌, ⊤, �
 use Rattle.std.specs.Prelude.{Option, Result, Ok, Err}
 use Rattle.std.specs.Io.KnownBytes.{Appends, Consumes, IsAtEnd}
 use Rattle.gaz_keeper.specs.Keeper.{Seen}
-use Rattle.gaz_hub.specs.Hubs.{IsToldAtDoor, Runs, Steps}
-use Rattle.gaz_hub.specs.Step.{Door, Response}
+use Rattle.gaz_steps.specs.Hubs.{IsToldAtDoor, Runs, Steps}
+use Rattle.gaz_steps.specs.Step.{Door, Response}
 use Rattle.gaz_http.specs.Headers.{is_closing}
 use Rattle.gaz_http.specs.Heads.{IsOver}
 use Rattle.gaz_http.specs.Sparing.{OneForEach, OneForEachUsed}

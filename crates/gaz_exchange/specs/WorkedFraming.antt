@@ -1,7 +1,7 @@
 -- Worked examples of how long a body is, computed from the definitions.
 use Rattle.std.specs.Prelude.{◌≡◌, List, ℕ, [], ◌∷◌, codes}
 use Rattle.httparse.specs.Grammar.{Field, RequestHead}
-use Rattle.gaz_hub.specs.declared.refusal.DoorRefusal.TheVariants.{TooLarge}
+use Rattle.gaz_steps.specs.declared.refusal.DoorRefusal.TheVariants.{TooLarge}
 use Rattle.gaz_http.specs.WorkedClosings.{head, header}
 use Rattle.gaz_exchange.specs.Framing.{length_of}
 use Rattle.gaz_exchange.specs.declared.fault.Fault.TheVariants.{BadRequest, Door, LengthRequired}

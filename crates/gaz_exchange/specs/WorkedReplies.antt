@@ -1,11 +1,11 @@
 -- Worked examples of the texts of replies, computed from the definitions.
 use Rattle.std.specs.Prelude.{◌≡◌, List, ℕ, [], ◌∷◌, ◌++◌, true, false, Some, None, codes}
 use Rattle.gaz_ids.specs.declared.status.Status.TheVariants.{Approved, Historical}
-use Rattle.gaz_hub.specs.declared.outcome.Outcome.TheVariants.{Applied, Held, Rejected}
-use Rattle.gaz_hub.specs.declared.question.Told.TheVariants as told
-use Rattle.gaz_hub.specs.declared.refusal.DoorRefusal.TheVariants.{BadVolume, TooLarge}
-use Rattle.gaz_hub.specs.declared.refusal.DoorRefusal.TheVariants.{UnknownCustodian}
-use Rattle.gaz_hub.specs.declared.refusal.DoorRefusal.TheVariants.{UnknownProfile}
+use Rattle.gaz_steps.specs.declared.outcome.Outcome.TheVariants.{Applied, Held, Rejected}
+use Rattle.gaz_steps.specs.declared.question.Told.TheVariants as told
+use Rattle.gaz_steps.specs.declared.refusal.DoorRefusal.TheVariants.{BadVolume, TooLarge}
+use Rattle.gaz_steps.specs.declared.refusal.DoorRefusal.TheVariants.{UnknownCustodian}
+use Rattle.gaz_steps.specs.declared.refusal.DoorRefusal.TheVariants.{UnknownProfile}
 use Rattle.gaz_exchange.specs.Replies.{reply_text, told_text}
 use Rattle.gaz_exchange.specs.declared.fault.Allowed.TheVariants.{Get, GetAndPost}
 use Rattle.gaz_exchange.specs.declared.fault.Fault.{Fault}

@@ -1,14 +1,14 @@
 -- Worked examples on the requests of a stream.
 use Rattle.std.specs.Prelude.{◌≡◌, ℕ, true, false, List, [], ◌∷◌, ◌++◌, codes, Some, None}
 use Rattle.std.specs.Prelude.{Ok, Err}
-use Rattle.gaz_hub.specs.Hubs.{door_of}
-use Rattle.gaz_hub.specs.Step.{Door, Pose, Replied, Submit, Submitted}
+use Rattle.gaz_steps.specs.Hubs.{door_of}
+use Rattle.gaz_steps.specs.Step.{Door, Pose, Replied, Submit, Submitted}
 use Rattle.gaz_hub.specs.WorkedHubs.{upper_and_lower}
-use Rattle.gaz_hub.specs.declared.answer.Answer.TheVariants.{New}
-use Rattle.gaz_hub.specs.declared.outcome.Outcome.TheVariants.{Rejected}
-use Rattle.gaz_hub.specs.declared.question.Question.TheVariants.{Ask}
-use Rattle.gaz_hub.specs.declared.refusal.DoorRefusal.TheVariants.{UnknownCustodian}
-use Rattle.gaz_hub.specs.declared.refusal.Refusal.TheVariants as refusal
+use Rattle.gaz_steps.specs.declared.answer.Answer.TheVariants.{New}
+use Rattle.gaz_steps.specs.declared.outcome.Outcome.TheVariants.{Rejected}
+use Rattle.gaz_steps.specs.declared.question.Question.TheVariants.{Ask}
+use Rattle.gaz_steps.specs.declared.refusal.DoorRefusal.TheVariants.{UnknownCustodian}
+use Rattle.gaz_steps.specs.declared.refusal.Refusal.TheVariants as refusal
 use Rattle.gaz_http.specs.WorkedClosings.{head, header}
 use Rattle.gaz_exchange.specs.Exchanges.{Comes, Exchange, HearsDoor, RoutesStay, commands_of}
 use Rattle.gaz_exchange.specs.Exchanges.{goes_on, replies, responses_of}

@@ -1,15 +1,15 @@
 //! The bodies of replies: compact JSON with its keys in byte order, and one line feed.
 ghost use Rattle.std.specs.Prelude.{◌≡◌, ◌≤◌, ◌+◌, ◌++◌, [], decimal, false, length, IfOk, OnOk};
 ghost use Rattle.std.specs.Option.{unwrap_or};
-ghost use Rattle.gaz_hub.specs.declared.question.Told.TheVariants as Told;
+ghost use Rattle.gaz_steps.specs.declared.question.Told.TheVariants as Told;
 ghost use Rattle.gaz_exchange.specs.Replies.{body_of, is_extract, line_text};
 ghost use Rattle.gaz_exchange.specs.Replies.{outcome_text, told_text, want_text, wants_text};
 ghost use Rattle.gaz_exchange.specs.declared.reply.Reply.TheVariants as Reply;
 
 use crate::closed::closed_body;
 use gaz_extract::{AddressLine, Found};
-use gaz_hub::{Digest, Outcome, Standing, Told};
 use gaz_ids::{Code, Volume};
+use gaz_steps::{Digest, Outcome, Standing, Told};
 use itoa::Buffer;
 use json::Writer;
 use std::alloc::{AllocError, Global};

@@ -7,8 +7,8 @@ ghost use Rattle.gaz_exchange.specs.Targets as seen;
 ghost use Rattle.gaz_exchange.specs.Targets.{code_in, volume_in};
 
 use crate::fault::{Allowed, Fault};
-use gaz_hub::Question;
 use gaz_ids::{Code, Uprn, Volume};
+use gaz_steps::Question;
 use matchit::{Params, ParamsIter};
 
 /// The methods that some target takes, and all others.

@@ -1,7 +1,7 @@
 //! The body that tells addresses on closed streets.
 ghost use Rattle.std.specs.Prelude.{◌≡◌, ◌++◌, codes, flat_map, IfOk, OnOk, string_bytes};
 ghost use Rattle.std.specs.List.{join_by};
-ghost use Rattle.gaz_hub.specs.declared.question.Told.TheVariants as Told;
+ghost use Rattle.gaz_steps.specs.declared.question.Told.TheVariants as Told;
 ghost use Rattle.gaz_exchange.specs.Replies.{closed_text, told_text};
 
 use gaz_extract::Closed;

@@ -1,7 +1,7 @@
 ghost use Rattle.std.specs.Prelude.{◌≡◌, [], OnErr};
 ghost use Rattle.std.specs.Io.KnownBytes.{Keeps};
 ghost use Rattle.gaz_keeper.specs.Keeper.{IsNotOpen};
-ghost use Rattle.gaz_hub.specs.Hubs.{door_of};
+ghost use Rattle.gaz_steps.specs.Hubs.{door_of};
 ghost use Rattle.gaz_hub.specs.Seen.{hub_seen};
 ghost use Rattle.gaz_http.specs.Failing.{FailedInto};
 ghost use Rattle.gaz_exchange.specs.Conversing.{CountedConversation, StopsByFault, transfer};

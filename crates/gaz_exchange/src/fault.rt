@@ -3,7 +3,7 @@ ghost use Rattle.gaz_exchange.specs.Faults.{fault_of};
 ghost use Rattle.gaz_exchange.specs.Replies.{reply_text};
 ghost use Rattle.gaz_exchange.specs.declared.reply.Reply.TheVariants as Reply;
 
-use gaz_hub::{DoorRefusal, Refusal};
+use gaz_steps::{DoorRefusal, Refusal};
 
 /// The methods that a target takes.
 #[derive(Clone, Copy, PartialEq, Eq)]

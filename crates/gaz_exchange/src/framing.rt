@@ -7,9 +7,9 @@ ghost use Rattle.gaz_exchange.specs.Framing.{is_post_method, length_in, size_in}
 
 use crate::fault::Fault;
 use gaz_http::{find_value, how_many};
-use gaz_hub::DoorRefusal;
 use gaz_ids::MOST_BYTES;
 use gaz_ids::digits::are_digits;
+use gaz_steps::DoorRefusal;
 use httparse::spans::HeaderSpan;
 
 /// How long the body of a request is.

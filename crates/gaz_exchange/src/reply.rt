@@ -3,7 +3,7 @@ ghost use Rattle.gaz_exchange.specs.Replies.{is_received, memory_fault, reply_of
 ghost use Rattle.gaz_exchange.specs.Replies.{reply_told};
 
 use crate::fault::Fault;
-use gaz_hub::{Answer, Digest, Outcome, Refusal, Told};
+use gaz_steps::{Answer, Digest, Outcome, Refusal, Told};
 
 /// What a reply says.
 #[derive(Drop)]

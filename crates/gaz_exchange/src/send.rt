@@ -9,7 +9,7 @@ ghost use Rattle.gaz_exchange.specs.declared.reply.Reply.TheVariants as Reply;
 use crate::bodies::{outcome_body, taken_body, told_body};
 use crate::reply::{Reply, memory_text};
 use gaz_http::{Sink, write_all};
-use gaz_hub::Told;
+use gaz_steps::Told;
 use itoa::Buffer;
 use std::alloc::{AllocError, Global};
 

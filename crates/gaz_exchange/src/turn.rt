@@ -1,6 +1,6 @@
 ghost use Rattle.std.specs.Prelude.{◌≡◌, Ok};
 ghost use Rattle.gaz_keeper.specs.Keeper.{IsNotOpen};
-ghost use Rattle.gaz_hub.specs.Hubs.{door_of};
+ghost use Rattle.gaz_steps.specs.Hubs.{door_of};
 ghost use Rattle.gaz_hub.specs.Seen.{hub_seen};
 ghost use Rattle.gaz_http.specs.Failing.{HasFailed, WriterFailed};
 ghost use Rattle.gaz_exchange.specs.Conversing.{transfer};

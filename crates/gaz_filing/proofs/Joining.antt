@@ -23,7 +23,7 @@ use Rattle.gaz_stored.specs.Calls as stored
 use Rattle.gaz_stored.specs.Calls.{CutOff, IsFoundAfter, Whole}
 use Rattle.gaz_stored.specs.Reopening.{HasStoreOf, OpensOrFails, OpensThen}
 use Rattle.gaz_stored.specs.Runs.{GoesOn}
-use Rattle.gaz_hub.specs.Step.{new_hub}
+use Rattle.gaz_steps.specs.Step.{new_hub}
 use Rattle.gaz_filing.specs.Filing.{Closes, Connects}
 use Rattle.gaz_filing.specs.Joined.{CallsAreOne, FileCall, FollowOn, IsGiven, IsPassedOn, NextOpens, call_over, came_over}
 

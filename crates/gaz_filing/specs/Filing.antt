@@ -24,7 +24,7 @@ use Rattle.gaz_calls.specs.declared.growing.ExtendFault.{ExtendFault}
 use Rattle.gaz_store.specs.Opened.{IsMade, IsRefused}
 use Rattle.gaz_store.specs.Store.{seen_in}
 use Rattle.gaz_store.specs.declared.store.Store.{Store}
-use Rattle.gaz_hub.specs.Step.{Command}
+use Rattle.gaz_steps.specs.Step.{Command}
 use Rattle.gaz_stored.specs.Extending.{ExtendsOpened}
 use Rattle.gaz_stored.specs.Meetings.{Meeting}
 use Rattle.gaz_stored.specs.Migrating.{LacksBoth, MigratesOpened, StopsMoving}

@@ -14,7 +14,7 @@ use Rattle.gaz_kept.specs.declared.refusal.StoreRefusal.{StoreRefusal}
 use Rattle.gaz_kept.specs.declared.refusal.StoreRefusal.TheVariants.{Fault}
 use Rattle.gaz_calls.specs.declared.growing.ExtendFault.{ExtendFault}
 use Rattle.gaz_store.specs.Opened.{IsRefused}
-use Rattle.gaz_hub.specs.Step.{Command, new_hub}
+use Rattle.gaz_steps.specs.Step.{Command, new_hub}
 use Rattle.gaz_commands.specs.declared.said.Said.{Said}
 use Rattle.gaz_stored.specs.Calls.{AreOneRun, Call, CameTo, CutOff, Grew, IsFoundAfter, Moved}
 use Rattle.gaz_stored.specs.Calls.{Refused, Used, Whole}

@@ -1,13 +1,12 @@
 -- How judging goes on over a keeper.
-use Rattle.std.proofs.Common.{◌≡◌, ◌≤◌, ◌+◌, ◌-◌, ℕ, true, false, cond, eqb, eqb-true, List, [], ◌∷◌, ◌++◌, length, refl, sym, ap, ◌∙◌, subst, arith, length-append}
-use Rattle.std.proofs.Math.Path.{fun_ext}
+use Rattle.std.proofs.Common.{◌≡◌, ◌≤◌, ◌+◌, ◌-◌, ℕ, true, false, List, [], ◌∷◌, ◌++◌, length, refl, sym, ap, ◌∙◌, subst, arith, length-append}
 use Rattle.std.specs.Prelude.{Option, Some, None, IsSome, IsErrAnd, Result, Ok, Err, OnOk, OnErr}
 use Rattle.std.specs.Option.{option_map, option_map_or}
 use Rattle.std.specs.FinMap as map
 use Rattle.gaz_changefile.specs.Contents.{Contents}
 use Rattle.gaz_changefile.specs.Reading.{Good, Bad, Reading, reading}
 use Rattle.gaz_changefile.specs.declared.change.Basis.{Basis}
-use Rattle.gaz_register.specs.Registers.{Blocks, Owners, RegisterValue}
+use Rattle.gaz_register.specs.Registers.{Blocks, RegisterValue}
 use Rattle.gaz_keeper.specs.Board.{Board, Judgement, adds, empty_board, reached}
 use Rattle.gaz_keeper.specs.Keeper.{Content, Counts, Enters, IsAtHand, IsNotOpen, Seen, after_abandon, after_skip, with_judgement}
 use Rattle.gaz_keeper.specs.Received.{Received}
@@ -18,17 +17,18 @@ use Rattle.gaz_rules.specs.Bases.{are_reached, judged_on}
 use Rattle.gaz_rules.specs.Judges.{IsReady, Judges}
 use Rattle.gaz_rules.specs.Judging.{bases_of, judge}
 use Rattle.gaz_extract.specs.Readings.{Looks}
-use Rattle.gaz_hub.specs.Hubs.{AreKnown, IsSoundFor, MayHave, door_of, state_of}
+use Rattle.gaz_steps.specs.Hubs.{AreKnown, IsSoundFor, MayHave, door_of, state_of}
 use Rattle.gaz_hub.specs.Settling.{Advances, IsAll, IsNext, IsReadyAs, Tries}
-use Rattle.gaz_hub.specs.Standing.{Follows, IsPartial, Leads, judge_one, next_reading, ready, with_next}
-use Rattle.gaz_hub.specs.Step.{Door, blocks}
-use Rattle.gaz_hub.specs.Stops.{IsLater, Stops}
+use Rattle.gaz_steps.specs.Standing.{Follows, IsPartial, Leads, next_reading, ready}
+use Rattle.gaz_steps.specs.Step.{Door, blocks}
+use Rattle.gaz_steps.specs.Stops.{IsLater, Stops}
 use Rattle.gaz_hub.specs.declared.looking.Next.{Next}
 use Rattle.gaz_hub.proofs.Bounds.{all_then, not_all}
-use Rattle.gaz_hub.proofs.Leading.{follows_itself, follows_on, leads_on}
-use Rattle.gaz_hub.proofs.Looks.{counts_then, left_not_open}
-use Rattle.gaz_hub.proofs.Prefixes.{both_parts}
+use Rattle.gaz_steps.proofs.Leading.{follows_itself, follows_on, leads_on}
+use Rattle.gaz_steps.proofs.Looks.{counts_then, left_not_open}
+use Rattle.gaz_steps.proofs.Prefixes.{both_parts}
 use Rattle.gaz_hub.proofs.Stopping.{Marks, later_on, stops_added, stops_look, stops_still, stops_then}
+use Rattle.gaz_steps.proofs.Added.{added_is}
 
 -- ---- one after another
 
@@ -151,17 +151,6 @@ was_some f (Some x) r e = refl
 
 pub is_at_hand : (k : Content) (c : ℕ) (r : Reading) → next_reading k.files k.board c ≡ Some r → IsAtHand k c
 is_at_hand k c r e = was_some (λ bytes. reading bytes c (reached k.board c + 1)) (map.get k.files (c, reached k.board c + 1)) r e
-
--- it is the judgement that the board gets
-pub added_is : (G : Owners) (F : Received) (B : Board) (c : ℕ) (r : Reading) → next_reading F B c ≡ Some r → adds B c (judged_on (G c) B c r) ≡ judge_one G F B c
-added_is G F B c r e =
-    fun_ext (λ d. elim (eqb d c) as (λ b. eqb d c ≡ b → cond b (B d ++ judged_on (G c) B c r ∷ []) (B d) ≡ cond b (with_next G F B d) (B d)) [
-      | true ↦ λ t.
-          let is : d ≡ c = eqb-true d c t in
-          subst (λ x. B x ++ judged_on (G c) B c r ∷ [] ≡ with_next G F B x) (sym is)
-          (sym (ap (λ o. option_map_or (λ (x : Reading). B c ++ judged_on (G c) B c x ∷ []) o (B c)) e))
-      | false ↦ λ _. refl
-    ] refl)
 
 -- a custodian's next file is ready and reads so
 abbrev pub IsNow : Content → ℕ → Reading → Type 0

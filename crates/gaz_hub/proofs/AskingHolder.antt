@@ -8,14 +8,14 @@ use Rattle.gaz_extract.proofs.Readings.{if_ok}
 use Rattle.gaz_register.specs.Registers.{IsRegister, RegisterValue}
 use Rattle.gaz_keeper.specs.Keeper.{Content, Seen}
 use Rattle.gaz_keeper.specs.declared.fault.ShelfFault.{ShelfFault}
-use Rattle.gaz_hub.specs.Hubs.{StandsFor, Steps, door_of}
-use Rattle.gaz_hub.specs.Owners.{told_by_holder}
+use Rattle.gaz_steps.specs.Hubs.{StandsFor, Steps, door_of}
+use Rattle.gaz_steps.specs.Owners.{told_by_holder}
 use Rattle.gaz_hub.specs.Settling.{AnswersSettled, Tells}
-use Rattle.gaz_hub.specs.Standing.{NothingReady}
-use Rattle.gaz_hub.specs.Step.{Door, Pose, Replied}
-use Rattle.gaz_hub.specs.declared.question.Question.TheVariants.{LookUp}
-use Rattle.gaz_hub.specs.declared.refusal.Refusal.{Refusal}
-use Rattle.gaz_hub.proofs.Owners.{holder_tells}
+use Rattle.gaz_steps.specs.Standing.{NothingReady}
+use Rattle.gaz_steps.specs.Step.{Door, Pose, Replied}
+use Rattle.gaz_steps.specs.declared.question.Question.TheVariants.{LookUp}
+use Rattle.gaz_steps.specs.declared.refusal.Refusal.{Refusal}
+use Rattle.gaz_steps.proofs.Owners.{holder_tells}
 use Rattle.gaz_hub.proofs.Replying.{steps_read}
 use Rattle.gaz_hub.proofs.Telling.{tells_settled}
 

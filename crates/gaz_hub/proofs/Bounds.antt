@@ -7,13 +7,13 @@ use Rattle.std.specs.List.{find}
 use Rattle.gaz_register.specs.Registers.{CustodianValue, Owners, RegisterValue, knows}
 use Rattle.gaz_keeper.specs.Board.{Board, reached}
 use Rattle.gaz_keeper.specs.Received.{Received}
-use Rattle.gaz_hub.specs.Step.{blocks}
-use Rattle.gaz_hub.specs.Hubs.{AreKnown, StandsFor, door_of}
+use Rattle.gaz_steps.specs.Step.{blocks}
+use Rattle.gaz_steps.specs.Hubs.{AreKnown, StandsFor, door_of}
 use Rattle.gaz_hub.specs.Settling.{Advances, IsAll, capped, judged_by}
-use Rattle.gaz_hub.specs.Standing.{Leads, judge_one, ready, with_next}
+use Rattle.gaz_steps.specs.Standing.{Leads, judge_one, ready, with_next}
 use Rattle.gaz_keeper.specs.Keeper.{Seen}
-use Rattle.gaz_hub.proofs.Orders.{judge_one_moved, moved_below, next, ready_gives, with_next_is}
-use Rattle.gaz_hub.proofs.Prefixes.{prefix_length}
+use Rattle.gaz_steps.proofs.Orders.{judge_one_moved, moved_below, next, ready_gives, with_next_is}
+use Rattle.gaz_steps.proofs.Prefixes.{prefix_length}
 
 cap_most : (n : ℕ) → capped n ≤ 999999
 cap_most n = elim (leb n 999999) as (λ b. leb n 999999 ≡ b → cond b n 999999 ≤ 999999) [ true ↦ λ e. leb-true n 999999 e | false ↦ λ e. omega arith ] refl

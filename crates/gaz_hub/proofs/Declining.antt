@@ -3,14 +3,14 @@ use Rattle.std.proofs.Common.{◌≡◌, ◌≢◌, ℕ, true, false, true≢fal
 use Rattle.std.specs.Prelude.{Some, Err}
 use Rattle.gaz_keeper.specs.Keeper.{IsNotOpen, Seen}
 use Rattle.gaz_keeper.specs.declared.fault.ShelfFault.TheVariants.{Store}
-use Rattle.gaz_hub.specs.Hubs.{Steps, cause_of, is_declined, is_declined_by, state_of}
-use Rattle.gaz_hub.specs.Step.{Command, Door, HubState, Pose, Replied, Response, Step, Submit, Submitted, file_refusal, question_refusal}
-use Rattle.gaz_hub.specs.Stops.{is_taken_in}
-use Rattle.gaz_hub.specs.declared.answer.Answer.TheVariants.{Refused}
-use Rattle.gaz_hub.specs.declared.question.Question.{Question}
-use Rattle.gaz_hub.specs.declared.refusal.DoorRefusal.{DoorRefusal}
-use Rattle.gaz_hub.specs.declared.refusal.Refusal.TheVariants as refusal
-use Rattle.gaz_hub.proofs.Answers.{reads_standing}
+use Rattle.gaz_steps.specs.Hubs.{Steps, cause_of, is_declined, is_declined_by, state_of}
+use Rattle.gaz_steps.specs.Step.{Command, Door, HubState, Pose, Replied, Response, Step, Submit, Submitted, file_refusal, question_refusal}
+use Rattle.gaz_steps.specs.Stops.{is_taken_in}
+use Rattle.gaz_steps.specs.declared.answer.Answer.TheVariants.{Refused}
+use Rattle.gaz_steps.specs.declared.question.Question.{Question}
+use Rattle.gaz_steps.specs.declared.refusal.DoorRefusal.{DoorRefusal}
+use Rattle.gaz_steps.specs.declared.refusal.Refusal.TheVariants as refusal
+use Rattle.gaz_steps.proofs.Answers.{reads_standing}
 use Rattle.gaz_hub.proofs.Stopping.{stops_unasked}
 
 -- any hub stays as it is

@@ -3,12 +3,12 @@ use Rattle.std.specs.Prelude.{ℕ, Option, Result, Ok, Err, OnErr}
 use Rattle.std.specs.Global.{Vec}
 use Rattle.gaz_extract.specs.declared.closed.Closed.{Closed}
 use Rattle.gaz_keeper.specs.declared.fault.ShelfFault.{ShelfFault}
-use Rattle.gaz_hub.specs.Hubs.{or_not_received, told, told_all}
+use Rattle.gaz_steps.specs.Hubs.{or_not_received, told, told_all}
 use Rattle.gaz_hub.specs.Seen.{ForgetsOver, RemembersNothing}
 use Rattle.gaz_hub.specs.declared.hub.Hub.{Hub}
-use Rattle.gaz_hub.specs.declared.question.Question.{Question}
-use Rattle.gaz_hub.specs.declared.question.Question.TheVariants.{Settle}
-use Rattle.gaz_hub.specs.declared.refusal.Refusal.{Refusal}
+use Rattle.gaz_steps.specs.declared.question.Question.{Question}
+use Rattle.gaz_steps.specs.declared.question.Question.TheVariants.{Settle}
+use Rattle.gaz_steps.specs.declared.refusal.Refusal.{Refusal}
 
 -- a fault of settling
 pub forgets_settling : {K : Type 0} (hub : Hub K) (r : Result (Unit {0}) ShelfFault) → OnErr r (RemembersNothing hub) → ForgetsOver Settle (or_not_received r) hub

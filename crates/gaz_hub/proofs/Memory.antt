@@ -15,14 +15,15 @@ use Rattle.gaz_extract.proofs.Readings.{if_ok}
 use Rattle.gaz_extract.specs.Readings.{Looks}
 use Rattle.gaz_keeper.proofs.Keeping.{keeps_then}
 use Rattle.gaz_waiters.specs.Remembered.{Remembered, all_ahead, is_among, known_in, nobody_ahead, wanted_by, with_coming, with_judged, with_nothing_wanted, with_waiter}
-use Rattle.gaz_hub.specs.Hubs.{StandsFor, door_of}
-use Rattle.gaz_hub.specs.Outcomes.{wants}
+use Rattle.gaz_steps.specs.Hubs.{StandsFor, door_of}
+use Rattle.gaz_steps.specs.Outcomes.{wants}
 use Rattle.gaz_hub.specs.Seen.{CallsKeeper, IsAfterComing, IsKeptOrLost, kept_seen, sured}
 use Rattle.gaz_hub.specs.Settling.{Advances, IsNext, Tells}
-use Rattle.gaz_hub.specs.Step.{Door}
+use Rattle.gaz_steps.specs.Step.{Door}
 use Rattle.gaz_hub.specs.Waiting.{IsRight, IsSo, RestAfter, RestBut, Rests, remembering}
 use Rattle.gaz_hub.specs.declared.looking.Next.TheVariants as next
-use Rattle.gaz_hub.proofs.Advancing.{Adds, IsNow, added_is}
+use Rattle.gaz_hub.proofs.Advancing.{Adds, IsNow}
+use Rattle.gaz_steps.proofs.Added.{added_is}
 use Rattle.gaz_hub.proofs.Rounds.{stops_of_remembering}
 use Rattle.gaz_hub.proofs.Waiting.{in_neither, known_among, nothing_wanted, now_waits, now_wanted, others_wanted, rests_on, rests_with, still_waits, still_wanted, unwoken}
 

@@ -5,15 +5,15 @@ use Rattle.gaz_keeper.specs.Keeper.{Content, IsOpen, Seen}
 use Rattle.gaz_keeper.specs.declared.fault.ShelfFault.{ShelfFault}
 use Rattle.gaz_keeper.specs.declared.fault.ShelfFault.TheVariants.{Store}
 use Rattle.gaz_extract.specs.Readings.{Looks}
-use Rattle.gaz_hub.specs.Hubs.{MeetsDoor, StandsFor, Steps, or_not_received, state_of}
+use Rattle.gaz_steps.specs.Hubs.{MeetsDoor, StandsFor, Steps, or_not_received, state_of}
 use Rattle.gaz_hub.specs.Settling.{AnswersSettled, Tells}
-use Rattle.gaz_hub.specs.Standing.{NothingReady}
-use Rattle.gaz_hub.specs.Step.{Door, HubState, Pose, Replied, Step, Told, answer_to, blocks, question_refusal}
-use Rattle.gaz_hub.specs.declared.question.Question.{Question}
-use Rattle.gaz_hub.specs.declared.refusal.Refusal.{Refusal}
-use Rattle.gaz_hub.specs.declared.refusal.Refusal.TheVariants as refusal
-use Rattle.gaz_hub.proofs.Answers.{reads_standing}
-use Rattle.gaz_hub.proofs.Leading.{follows_itself}
+use Rattle.gaz_steps.specs.Standing.{NothingReady}
+use Rattle.gaz_steps.specs.Step.{Door, HubState, Pose, Replied, Step, Told, answer_to, blocks, question_refusal}
+use Rattle.gaz_steps.specs.declared.question.Question.{Question}
+use Rattle.gaz_steps.specs.declared.refusal.Refusal.{Refusal}
+use Rattle.gaz_steps.specs.declared.refusal.Refusal.TheVariants as refusal
+use Rattle.gaz_steps.proofs.Answers.{reads_standing}
+use Rattle.gaz_steps.proofs.Leading.{follows_itself}
 use Rattle.gaz_hub.proofs.Stopping.{stops_judging}
 use Rattle.gaz_hub.proofs.Telling.{tells_settled}
 

@@ -7,14 +7,14 @@ use Rattle.gaz_keeper.specs.Keeper.{Content, Seen}
 use Rattle.gaz_keeper.specs.Received.{Received}
 use Rattle.gaz_keeper.specs.declared.fault.ShelfFault.{ShelfFault}
 use Rattle.gaz_waiters.specs.Remembered.{Remembered, is_among}
-use Rattle.gaz_hub.specs.Hubs.{AreKnown, door_of}
+use Rattle.gaz_steps.specs.Hubs.{AreKnown, door_of}
 use Rattle.gaz_hub.specs.Settling.{Advances, Tells, Tries}
-use Rattle.gaz_hub.specs.Standing.{NothingReady, ready}
-use Rattle.gaz_hub.specs.Step.{Door, HubState}
-use Rattle.gaz_hub.specs.Stops.{Stops}
+use Rattle.gaz_steps.specs.Standing.{NothingReady, ready}
+use Rattle.gaz_steps.specs.Step.{Door, HubState}
+use Rattle.gaz_steps.specs.Stops.{Stops}
 use Rattle.gaz_hub.specs.Waiting.{RestAfter, remembering}
 use Rattle.gaz_hub.proofs.Bounds.{all_then}
-use Rattle.gaz_hub.proofs.Orders.{ready_gives}
+use Rattle.gaz_steps.proofs.Orders.{ready_gives}
 use Rattle.gaz_hub.proofs.Advancing.{advances_less, advances_then}
 
 -- with what is remembered of a keeper

@@ -14,13 +14,13 @@ use Rattle.gaz_rules.specs.Judges.{IsReady, Judges}
 use Rattle.gaz_rules.specs.Judging.{judge}
 use Rattle.gaz_keeper.specs.Board.{Judgement}
 use Rattle.gaz_extract.specs.Readings.{Looks}
-use Rattle.gaz_hub.specs.Hubs.{IsSoundFor, state_of}
+use Rattle.gaz_steps.specs.Hubs.{IsSoundFor, state_of}
 use Rattle.gaz_hub.specs.Settling.{IsReadyAs}
-use Rattle.gaz_hub.specs.Standing.{Follows}
-use Rattle.gaz_hub.specs.Step.{Command, Door, HubState, Pose, Response, Submit, blocks, file_refusal}
-use Rattle.gaz_hub.specs.Stops.{IsLater, IsLaterWith, IsLeftBy, IsLeftWith, Stops, StopsCall, is_taken_in}
-use Rattle.gaz_hub.proofs.Leading.{follows_itself, follows_more, follows_on}
-use Rattle.gaz_hub.proofs.Steps.{has_all_with}
+use Rattle.gaz_steps.specs.Standing.{Follows}
+use Rattle.gaz_steps.specs.Step.{Command, Door, HubState, Pose, Response, Submit, blocks, file_refusal}
+use Rattle.gaz_steps.specs.Stops.{IsLater, IsLaterWith, IsLeftBy, IsLeftWith, Stops, StopsCall, is_taken_in}
+use Rattle.gaz_steps.proofs.Leading.{follows_itself, follows_more, follows_on}
+use Rattle.gaz_steps.proofs.Steps.{has_all_with}
 
 -- ---- one hub after another
 

@@ -19,12 +19,12 @@ use Rattle.gaz_keeper.proofs.Pairs.{pairs_total}
 use Rattle.gaz_keeper.specs.Board.{Board, reached}
 use Rattle.gaz_keeper.specs.Received.{Received, with_file}
 use Rattle.gaz_waiters.specs.Remembered.{Remembered, is_among, waiting_for, wanted_by, with_coming, with_judged, with_nothing_wanted, with_waiter}
-use Rattle.gaz_hub.specs.Outcomes.{first_unreached, wants, wants_as}
-use Rattle.gaz_hub.specs.Runs.{same_pair}
-use Rattle.gaz_hub.specs.Standing.{judge_one, next_reading, ready, with_next}
+use Rattle.gaz_steps.specs.Outcomes.{first_unreached, wants, wants_as}
+use Rattle.gaz_steps.specs.Runs.{same_pair}
+use Rattle.gaz_steps.specs.Standing.{judge_one, next_reading, ready, with_next}
 use Rattle.gaz_hub.specs.Waiting.{Rests}
-use Rattle.gaz_hub.proofs.Orders.{next, ready_gives, with_next_is}
-use Rattle.gaz_hub.proofs.Steps.{pairs_same}
+use Rattle.gaz_steps.proofs.Orders.{next, ready_gives, with_next_is}
+use Rattle.gaz_steps.proofs.Steps.{pairs_same}
 
 -- ---- who is among some
 

@@ -2,10 +2,10 @@
 use Rattle.std.proofs.Common.{◌≡◌, ◌≤◌, ℕ, refl, sym, ap, ◌∙◌, arith, true≢false}
 use Rattle.std.specs.Option.{option_map_or}
 use Rattle.std.specs.Prelude.{Some, None}
-use Rattle.gaz_hub.specs.Examples.{one_judged, sent}
-use Rattle.gaz_hub.specs.Outcomes.{wants}
+use Rattle.gaz_steps.specs.Examples.{one_judged, sent}
+use Rattle.gaz_steps.specs.Outcomes.{wants}
 use Rattle.gaz_hub.specs.WorkedHubs.{WorkedCauses, WorkedDoors, WorkedHubs, WorkedLooks}
-use Rattle.gaz_hub.proofs.Examples.{closed_sent, first_ready, get_sent, reads}
+use Rattle.gaz_steps.proofs.Examples.{closed_sent, first_ready, get_sent, reads}
 
 on_doors : WorkedDoors
 on_doors = record {

@@ -8,10 +8,10 @@ use Rattle.gaz_keeper.specs.Board.{empty_board}
 use Rattle.gaz_keeper.specs.Keeper.{empty_content}
 use Rattle.gaz_keeper.specs.Received.{pair_cmp}
 use Rattle.gaz_waiters.specs.Remembered.{is_among, known_in, waiting_for, with_waiter}
-use Rattle.gaz_hub.specs.Outcomes.{wants}
+use Rattle.gaz_steps.specs.Outcomes.{wants}
 use Rattle.gaz_hub.specs.WorkedHubs.{upper_and_lower}
 use Rattle.gaz_hub.specs.WorkedWaiting.{WorkedWaiting, nobody, two_wait, waits_for_itself}
-use Rattle.gaz_hub.proofs.Examples.{closed_sent}
+use Rattle.gaz_steps.proofs.Examples.{closed_sent}
 use Rattle.gaz_hub.proofs.Memory.{recalled}
 use Rattle.gaz_hub.proofs.Waiting.{nothing_wanted, now_waits, now_wanted, still_wanted, waiting_with}
 use Rattle.gaz_hub.proofs.WorkedHubs.{wanted_is}

@@ -6,17 +6,17 @@ use Rattle.gaz_keeper.specs.Board.{Board}
 use Rattle.gaz_keeper.specs.Keeper.{IsNew, IsNotOpen, Seen}
 use Rattle.gaz_keeper.specs.Received.{Received}
 use Rattle.gaz_keeper.specs.declared.fault.ShelfFault.TheVariants.{Store}
-use Rattle.gaz_hub.specs.Answers.{IsTaken}
-use Rattle.gaz_hub.specs.Hubs.{IsSoundFor, Reaches, StandsFor, cause_in, cause_in_answer}
-use Rattle.gaz_hub.specs.Hubs.{is_declined, refusal_in_answer, state_of}
-use Rattle.gaz_hub.specs.Outcomes.{outcome, wants}
-use Rattle.gaz_hub.specs.Standing.{NothingReady}
-use Rattle.gaz_hub.specs.Step.{Door, Submit, Submits, Submitted}
-use Rattle.gaz_hub.specs.Stops.{StopsCall}
-use Rattle.gaz_hub.specs.declared.answer.Answer.{Answer}
-use Rattle.gaz_hub.specs.declared.answer.Answer.TheVariants.{New, Repeat, Taken, Refused}
-use Rattle.gaz_hub.specs.declared.outcome.Outcome.{Outcome}
-use Rattle.gaz_hub.specs.declared.outcome.Outcome.TheVariants.{Held}
+use Rattle.gaz_steps.specs.Answers.{IsTaken}
+use Rattle.gaz_steps.specs.Hubs.{IsSoundFor, Reaches, StandsFor, cause_in, cause_in_answer}
+use Rattle.gaz_steps.specs.Hubs.{is_declined, refusal_in_answer, state_of}
+use Rattle.gaz_steps.specs.Outcomes.{outcome, wants}
+use Rattle.gaz_steps.specs.Standing.{NothingReady}
+use Rattle.gaz_steps.specs.Step.{Door, Submit, Submits, Submitted}
+use Rattle.gaz_steps.specs.Stops.{StopsCall}
+use Rattle.gaz_steps.specs.declared.answer.Answer.{Answer}
+use Rattle.gaz_steps.specs.declared.answer.Answer.TheVariants.{New, Repeat, Taken, Refused}
+use Rattle.gaz_steps.specs.declared.outcome.Outcome.{Outcome}
+use Rattle.gaz_steps.specs.declared.outcome.Outcome.TheVariants.{Held}
 
 -- the outcome of a received file on a settled board
 abbrev pub IsOutcome : Received → Board → ℕ → ℕ → Outcome → Type 0

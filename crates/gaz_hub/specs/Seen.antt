@@ -7,13 +7,13 @@ use Rattle.gaz_keeper.specs.Keeper.{Seen}
 use Rattle.gaz_keeper.specs.declared.fault.ShelfFault.{ShelfFault}
 use Rattle.gaz_keeper.specs.declared.fault.ShelfFault.TheVariants.{Store}
 use Rattle.gaz_waiters.specs.Remembered.{Remembered, with_coming}
-use Rattle.gaz_hub.specs.Hubs.{cause_in_answer, door_of}
-use Rattle.gaz_hub.specs.Step.{file_refusal, question_refusal}
+use Rattle.gaz_steps.specs.Hubs.{cause_in_answer, door_of}
+use Rattle.gaz_steps.specs.Step.{file_refusal, question_refusal}
 use Rattle.gaz_hub.specs.Waiting.{remembering}
-use Rattle.gaz_hub.specs.declared.answer.Answer.{Answer}
+use Rattle.gaz_steps.specs.declared.answer.Answer.{Answer}
 use Rattle.gaz_hub.specs.declared.hub.Hub.{Hub}
-use Rattle.gaz_hub.specs.declared.question.Question.{Question}
-use Rattle.gaz_hub.specs.declared.refusal.Refusal.{Refusal}
+use Rattle.gaz_steps.specs.declared.question.Question.{Question}
+use Rattle.gaz_steps.specs.declared.refusal.Refusal.{Refusal}
 
 -- a keeper, where `seen` is how that is seen, with what is remembered of it
 abbrev pub kept_seen : {K : Type 0} → (K → Seen) → RegisterValue → K × Option Remembered → Seen

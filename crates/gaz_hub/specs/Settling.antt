@@ -12,12 +12,12 @@ use Rattle.gaz_keeper.specs.Keeper.{IsNotOpen, IsOpen, Seen}
 use Rattle.gaz_keeper.specs.Received.{Received}
 use Rattle.gaz_keeper.specs.declared.fault.ShelfFault.{ShelfFault}
 use Rattle.gaz_keeper.specs.declared.fault.ShelfFault.TheVariants.{Store}
-use Rattle.gaz_hub.specs.Hubs.{IsSoundFor, StandsFor, or_not_received, state_of}
-use Rattle.gaz_hub.specs.Outcomes.{first_unreached, wants}
-use Rattle.gaz_hub.specs.Standing.{Follows, NothingReady, next_reading, ready}
-use Rattle.gaz_hub.specs.Step.{Door, blocks}
-use Rattle.gaz_hub.specs.Stops.{IsLater, Stops}
-use Rattle.gaz_hub.specs.declared.refusal.Refusal.{Refusal}
+use Rattle.gaz_steps.specs.Hubs.{IsSoundFor, StandsFor, or_not_received, state_of}
+use Rattle.gaz_steps.specs.Outcomes.{first_unreached, wants}
+use Rattle.gaz_steps.specs.Standing.{Follows, NothingReady, next_reading, ready}
+use Rattle.gaz_steps.specs.Step.{Door, blocks}
+use Rattle.gaz_steps.specs.Stops.{IsLater, Stops}
+use Rattle.gaz_steps.specs.declared.refusal.Refusal.{Refusal}
 use Rattle.gaz_hub.specs.declared.looking.NextFile.{NextFile}
 use Rattle.gaz_hub.specs.declared.looking.NextFile.TheVariants as file
 use Rattle.gaz_hub.specs.declared.looking.Next.{Next}

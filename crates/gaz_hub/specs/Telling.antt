@@ -6,11 +6,11 @@ use Rattle.gaz_keeper.specs.Board.{Board}
 use Rattle.gaz_keeper.specs.Keeper.{Seen}
 use Rattle.gaz_keeper.specs.Received.{Received}
 use Rattle.gaz_keeper.specs.declared.fault.ShelfFault.{ShelfFault}
-use Rattle.gaz_hub.specs.Hubs.{Steps, door_of}
+use Rattle.gaz_steps.specs.Hubs.{Steps, door_of}
 use Rattle.gaz_hub.specs.Settling.{Tells}
-use Rattle.gaz_hub.specs.Step.{Command, Pose, Replied, Response, Told}
-use Rattle.gaz_hub.specs.declared.question.Question.{Question}
-use Rattle.gaz_hub.specs.declared.refusal.Refusal.{Refusal}
+use Rattle.gaz_steps.specs.Step.{Command, Pose, Replied, Response, Told}
+use Rattle.gaz_steps.specs.declared.question.Question.{Question}
+use Rattle.gaz_steps.specs.declared.refusal.Refusal.{Refusal}
 
 -- the answer is right of the files and the board before
 abbrev pub LooksAtKept : {K T : Type 0} → (K → Seen) → K → K → Result T ShelfFault

@@ -5,10 +5,10 @@ use Rattle.gaz_keeper.specs.Board.{Board}
 use Rattle.gaz_keeper.specs.Keeper.{Content, Seen}
 use Rattle.gaz_keeper.specs.Received.{Received}
 use Rattle.gaz_waiters.specs.Remembered.{Remembered, is_among, waiting_for, wanted_by}
-use Rattle.gaz_hub.specs.Hubs.{StandsFor}
-use Rattle.gaz_hub.specs.Outcomes.{wants}
-use Rattle.gaz_hub.specs.Standing.{ready}
-use Rattle.gaz_hub.specs.Step.{Door}
+use Rattle.gaz_steps.specs.Hubs.{StandsFor}
+use Rattle.gaz_steps.specs.Outcomes.{wants}
+use Rattle.gaz_steps.specs.Standing.{ready}
+use Rattle.gaz_steps.specs.Step.{Door}
 
 -- a custodian's next volume isn't ready, it is among those who wait for what it waits for, and that
 -- is what is remembered of it

@@ -6,22 +6,22 @@ use Rattle.gaz_register.specs.Registers.{RegisterValue, within}
 use Rattle.gaz_keeper.specs.Keeper.{empty_content}
 use Rattle.gaz_keeper.specs.Board.{empty_board}
 use Rattle.gaz_keeper.specs.declared.fault.ShelfFault.TheVariants as fault
-use Rattle.gaz_hub.specs.Examples.{one_judged, sent}
-use Rattle.gaz_hub.specs.Hubs.{cause_of, door_of, is_foreign, state_of}
-use Rattle.gaz_hub.specs.Outcomes.{first_unreached}
+use Rattle.gaz_steps.specs.Examples.{one_judged, sent}
+use Rattle.gaz_steps.specs.Hubs.{cause_of, door_of, is_foreign, state_of}
+use Rattle.gaz_steps.specs.Outcomes.{first_unreached}
 use Rattle.gaz_hub.specs.Settling.{IsNext, IsNextFile, want_of}
-use Rattle.gaz_hub.specs.Step.{Replied, Submitted, blocks, new_hub, turned_away}
-use Rattle.gaz_hub.specs.WorkedBoards.{basis}
-use Rattle.gaz_hub.specs.declared.answer.Answer.TheVariants.{New, Refused, Taken}
+use Rattle.gaz_steps.specs.Step.{Replied, Submitted, blocks, new_hub, turned_away}
+use Rattle.gaz_steps.specs.WorkedBoards.{basis}
+use Rattle.gaz_steps.specs.declared.answer.Answer.TheVariants.{New, Refused, Taken}
 use Rattle.gaz_hub.specs.declared.looking.Next.{Next}
 use Rattle.gaz_hub.specs.declared.looking.Next.TheVariants.{Bad, Done, Waits}
 use Rattle.gaz_hub.specs.declared.looking.NextFile.TheVariants.{Missing, Past}
-use Rattle.gaz_hub.specs.declared.outcome.Outcome.TheVariants.{Rejected}
-use Rattle.gaz_hub.specs.declared.question.Question.TheVariants.{Ask, Settle, Stand}
-use Rattle.gaz_hub.specs.declared.refusal.DoorRefusal.TheVariants.{BadVolume, TooLarge}
-use Rattle.gaz_hub.specs.declared.refusal.DoorRefusal.TheVariants.{UnknownCustodian}
-use Rattle.gaz_hub.specs.declared.refusal.Refusal.TheVariants.{Door, NotReceived}
-use Rattle.gaz_hub.specs.declared.refusal.Refusal.TheVariants.{ReceivedUnsettled}
+use Rattle.gaz_steps.specs.declared.outcome.Outcome.TheVariants.{Rejected}
+use Rattle.gaz_steps.specs.declared.question.Question.TheVariants.{Ask, Settle, Stand}
+use Rattle.gaz_steps.specs.declared.refusal.DoorRefusal.TheVariants.{BadVolume, TooLarge}
+use Rattle.gaz_steps.specs.declared.refusal.DoorRefusal.TheVariants.{UnknownCustodian}
+use Rattle.gaz_steps.specs.declared.refusal.Refusal.TheVariants.{Door, NotReceived}
+use Rattle.gaz_steps.specs.declared.refusal.Refusal.TheVariants.{ReceivedUnsettled}
 
 -- a register of two custodians
 abbrev pub upper_and_lower : RegisterValue

@@ -5,7 +5,7 @@ use Rattle.gaz_keeper.specs.Keeper.{Content, empty_content}
 use Rattle.gaz_waiters.specs.Remembered.{Remembered, all_ahead, is_among, known_in, waiting_for}
 use Rattle.gaz_waiters.specs.Remembered.{wanted_by, with_coming, with_judged, with_nothing_wanted}
 use Rattle.gaz_waiters.specs.Remembered.{with_waiter}
-use Rattle.gaz_hub.specs.Examples.{one_judged, sent}
+use Rattle.gaz_steps.specs.Examples.{one_judged, sent}
 use Rattle.gaz_hub.specs.Waiting.{IsRight, IsSo, Rests}
 use Rattle.gaz_hub.specs.WorkedHubs.{upper_and_lower}
 

@@ -1,13 +1,13 @@
 //! What the door turns away before the keeper is called.
 ghost use Rattle.std.specs.Prelude.{◌≡◌, IfOk, IfErr, Some, None, true, false};
 ghost use Rattle.gaz_register.specs.Registers.{knows};
-ghost use Rattle.gaz_hub.specs.Hubs.{door_of, is_foreign};
-ghost use Rattle.gaz_hub.specs.Step.{turned_away};
+ghost use Rattle.gaz_steps.specs.Hubs.{door_of, is_foreign};
+ghost use Rattle.gaz_steps.specs.Step.{turned_away};
 
-use crate::refusal::DoorRefusal;
 use gaz_changefile::{is_known_profile, profile_of};
 use gaz_ids::{Code, MOST_BYTES, Volume};
 use gaz_register::Register;
+use gaz_steps::DoorRefusal;
 use std::alloc::{AllocError, Global};
 
 /// The code, where the register has it.

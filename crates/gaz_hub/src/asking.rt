@@ -2,26 +2,23 @@
 ghost use Rattle.std.specs.Prelude.{◌≡◌, Some, None};
 ghost use Rattle.gaz_keeper.specs.Board.{reached};
 ghost use Rattle.gaz_hub.specs.Asked.{IsToldNow};
-ghost use Rattle.gaz_hub.specs.Hubs.{MeetsDoor, door_of};
-ghost use Rattle.gaz_hub.specs.Outcomes.{held_count, status};
+ghost use Rattle.gaz_steps.specs.Hubs.{MeetsDoor, door_of};
+ghost use Rattle.gaz_steps.specs.Outcomes.{held_count, status};
 ghost use Rattle.gaz_hub.specs.Seen.{ForgetsOver, hub_seen};
-ghost use Rattle.gaz_hub.specs.Step.{Pose, Replied};
+ghost use Rattle.gaz_steps.specs.Step.{Pose, Replied};
 ghost use Rattle.gaz_keeper.specs.Telling.{IsNotJudging};
 ghost use Rattle.gaz_hub.specs.Telling.{LooksAtKept, RepliesTo};
 ghost use Rattle.gaz_hub.specs.Waiting.{IsSo};
-ghost use Rattle.gaz_hub.specs.declared.question.Question.TheVariants.{Ask, Stand};
+ghost use Rattle.gaz_steps.specs.declared.question.Question.TheVariants.{Ask, Stand};
 
 use crate::admission::{at_door, known_code};
-use crate::answer::Digest as FileDigest;
 use crate::hub::Hub;
 use crate::looking::wants_as_known;
-use crate::outcome::Outcome;
-use crate::refusal::Refusal;
 use crate::remembering::answered_knowing;
 use crate::reply::{digest_of, tell};
-use crate::standing::Standing;
 use gaz_ids::{Code, Volume};
 use gaz_keeper::{Inbox, ShelfFault};
+use gaz_steps::{Digest as FileDigest, Outcome, Refusal, Standing};
 use std::alloc::Global;
 
 // The digest and the outcome of a volume, read off the board as it is.

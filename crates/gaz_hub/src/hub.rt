@@ -1,10 +1,10 @@
 ghost use Rattle.std.specs.Prelude.{◌≡◌, OnErr};
 ghost use Rattle.gaz_keeper.specs.Telling.{IsNotJudging};
 ghost use Rattle.gaz_hub.specs.Seen.{RemembersNothing, hub_seen};
-ghost use Rattle.gaz_hub.specs.Hubs.{MeetsDoor, door_of, or_not_received};
-ghost use Rattle.gaz_hub.specs.Step.{Pose, Replied};
+ghost use Rattle.gaz_steps.specs.Hubs.{MeetsDoor, door_of, or_not_received};
+ghost use Rattle.gaz_steps.specs.Step.{Pose, Replied};
 ghost use Rattle.gaz_hub.specs.Telling.{RepliesTo};
-ghost use Rattle.gaz_hub.specs.declared.question.Question.TheVariants.{Settle};
+ghost use Rattle.gaz_steps.specs.declared.question.Question.TheVariants.{Settle};
 
 use crate::remembering::settled;
 use gaz_keeper::{Inbox, ShelfFault};

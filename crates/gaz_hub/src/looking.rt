@@ -3,7 +3,7 @@ ghost use Rattle.std.specs.Prelude.{◌≡◌, ◌+◌};
 ghost use Rattle.gaz_changefile.specs.Reading.{Bad, Good};
 ghost use Rattle.gaz_keeper.specs.Board.{reached};
 ghost use Rattle.gaz_hub.specs.Settling.{IsNext, IsNextFile, IsReadAs, IsWeighed, want_of};
-ghost use Rattle.gaz_hub.specs.Outcomes.{first_unreached, wants};
+ghost use Rattle.gaz_steps.specs.Outcomes.{first_unreached, wants};
 ghost use Rattle.gaz_extract.specs.Readings.{LooksAtBoard};
 ghost use Rattle.gaz_hub.specs.Telling.{LooksAtKept};
 ghost use Rattle.gaz_hub.specs.Waiting.{IsSo};

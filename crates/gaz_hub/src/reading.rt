@@ -1,21 +1,21 @@
 //! What is read off a settled board: where a property stands, whole views, and addresses on closed
 //! streets.
 ghost use Rattle.std.specs.Prelude.{◌≡◌};
-ghost use Rattle.gaz_hub.specs.Hubs.{MeetsDoor, door_of, told, told_all};
+ghost use Rattle.gaz_steps.specs.Hubs.{MeetsDoor, door_of, told, told_all};
 ghost use Rattle.gaz_hub.specs.Seen.{ForgetsOver, hub_seen};
-ghost use Rattle.gaz_hub.specs.Step.{Pose, Replied};
+ghost use Rattle.gaz_steps.specs.Step.{Pose, Replied};
 ghost use Rattle.gaz_keeper.specs.Telling.{IsNotJudging};
 ghost use Rattle.gaz_hub.specs.Telling.{RepliesTo};
-ghost use Rattle.gaz_hub.specs.declared.question.Question.TheVariants.{Extract, ListClosed, LookUp};
+ghost use Rattle.gaz_steps.specs.declared.question.Question.TheVariants.{Extract, ListClosed};
+ghost use Rattle.gaz_steps.specs.declared.question.Question.TheVariants.{LookUp};
 
 use crate::admission::at_door;
-use crate::holding::ask_holder;
 use crate::hub::Hub;
-use crate::refusal::Refusal;
 use crate::remembering::answered;
 use gaz_extract::{Closed, Found, closed_streets, extract};
 use gaz_ids::Uprn;
 use gaz_keeper::Inbox;
+use gaz_steps::{Refusal, ask_holder};
 
 impl<K: Inbox + Drop> Hub<K> {
     /// Where a property stands now and how it is addressed; none where it stands with no custodian.

@@ -5,17 +5,17 @@ ghost use Rattle.std.specs.Option.{unwrap_or};
 ghost use Rattle.gaz_keeper.specs.Keeper.{Enters, IsNew, IsOpen, with_received};
 ghost use Rattle.gaz_keeper.specs.Telling.{IsNotJudging};
 ghost use Rattle.gaz_waiters.specs.Remembered.{all_ahead, known_in};
-ghost use Rattle.gaz_hub.specs.Hubs.{door_of};
+ghost use Rattle.gaz_steps.specs.Hubs.{door_of};
 ghost use Rattle.gaz_hub.specs.Knowing.{CallsKnowing, ReturnsKnowing, TakesIdleKnowing};
 ghost use Rattle.gaz_hub.specs.Knowing.{TakesKnowing};
 ghost use Rattle.gaz_hub.specs.Seen.{CallsKeeper, IsAfterComing, IsSured, kept_seen};
 ghost use Rattle.gaz_hub.specs.Settling.{AnswersSettled, SettlesAndCalls, TakesIdle, Tells};
 
-use crate::refusal::Refusal;
 use crate::settling::settle;
 use gaz_ids::{Code, Volume};
 use gaz_keeper::{Inbox, ShelfFault};
 use gaz_register::Register;
+use gaz_steps::Refusal;
 use gaz_waiters::Waiters;
 use std::alloc::{AllocError, Global};
 

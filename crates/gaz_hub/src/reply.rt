@@ -2,15 +2,14 @@
 ghost use Rattle.std.specs.Prelude.{◌≡◌, Some, None};
 ghost use Rattle.sha2.specs.Sha256.{sha256};
 ghost use Rattle.gaz_hub.specs.Asked.{IsHeld, IsOutcome};
-ghost use Rattle.gaz_hub.specs.Outcomes.{outcome_of};
+ghost use Rattle.gaz_steps.specs.Outcomes.{outcome_of};
 ghost use Rattle.gaz_hub.specs.Waiting.{IsSo};
 ghost use Rattle.gaz_hub.specs.Telling.{LooksAtKept};
 
-use crate::answer::Digest as FileDigest;
 use crate::looking::wants_as_known;
-use crate::outcome::Outcome;
 use gaz_ids::{Code, Volume};
 use gaz_keeper::{Inbox, ShelfFault, Verdict};
+use gaz_steps::{Digest as FileDigest, Outcome};
 use sha2::{Digest, Sha256};
 use std::alloc::Global;
 

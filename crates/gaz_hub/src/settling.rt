@@ -1,6 +1,6 @@
 //! Judging what is ready, until nothing is.
 ghost use Rattle.std.specs.Prelude.{◌≡◌, ◌≤◌, [], ◌∷◌, ⊤, Some, IfErr, IfOk, OnOk};
-ghost use Rattle.gaz_hub.specs.Hubs.{door_of};
+ghost use Rattle.gaz_steps.specs.Hubs.{door_of};
 ghost use Rattle.gaz_hub.specs.Settling.{Tells, Tries};
 ghost use Rattle.gaz_hub.specs.Waiting.{RestAfter, remembering};
 ghost use Rattle.gaz_keeper.specs.Telling.{IsNotJudging};

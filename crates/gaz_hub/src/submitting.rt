@@ -2,23 +2,21 @@
 ghost use Rattle.std.specs.Prelude.{◌≡◌, ◌↔◌, IfOk, IsSome, IsTrue, OnErr, Some, None, true, false};
 ghost use Rattle.gaz_register.specs.Registers.{knows};
 ghost use Rattle.gaz_hub.specs.Asked.{AnyIsOfBefore, IsAgain, IsOutcome, IsPastDoor, TakesIn};
-ghost use Rattle.gaz_hub.specs.Hubs.{MeetsDoor, cause_in_answer, door_of};
+ghost use Rattle.gaz_steps.specs.Hubs.{MeetsDoor, cause_in_answer, door_of};
 ghost use Rattle.gaz_hub.specs.Seen.{ForgetsTaking, RemembersNothing, hub_seen};
-ghost use Rattle.gaz_hub.specs.Step.{Submit, Submitted, file_refusal};
+ghost use Rattle.gaz_steps.specs.Step.{Submit, Submitted, file_refusal};
 ghost use Rattle.gaz_keeper.specs.Keeper.{IsOpen};
 ghost use Rattle.gaz_keeper.specs.Telling.{IsNotJudging};
 ghost use Rattle.gaz_hub.specs.Telling.{LooksAtKept, StepsTo, TellsKept};
 ghost use Rattle.gaz_hub.specs.Waiting.{IsSo};
 
 use crate::admission::{at_door, names_unknown_profile};
-use crate::answer::Answer;
 use crate::hub::Hub;
-use crate::outcome::Outcome;
-use crate::refusal::{DoorRefusal, Refusal};
 use crate::remembering::{receive, settled_knowing};
 use crate::reply::{digest_of, tell};
 use gaz_ids::{Code, Volume};
 use gaz_keeper::{Inbox, ShelfFault};
+use gaz_steps::{Answer, DoorRefusal, Outcome, Refusal};
 use std::alloc::Global;
 
 fn are_same(a: &[u8], b: &[u8]) -> bool

@@ -7,10 +7,10 @@ use Rattle.gaz_register.specs.Registers.{CustodianValue, Owners, RegisterValue, 
 use Rattle.gaz_keeper.specs.Board.{Board, empty_board, reached}
 use Rattle.gaz_keeper.specs.Keeper.{Seen}
 use Rattle.gaz_keeper.specs.Received.{Received}
-use Rattle.gaz_hub.specs.Hubs.{AreKnown, door_of}
-use Rattle.gaz_hub.specs.Standing.{IsPartial}
-use Rattle.gaz_hub.specs.Step.{Door, blocks}
-use Rattle.gaz_hub.proofs.Orders.{empty_lawful, leads_lawful}
+use Rattle.gaz_steps.specs.Hubs.{AreKnown, door_of}
+use Rattle.gaz_steps.specs.Standing.{IsPartial}
+use Rattle.gaz_steps.specs.Step.{Door, blocks}
+use Rattle.gaz_steps.proofs.Orders.{empty_lawful, leads_lawful}
 use Rattle.gaz_loaded.specs.Loading.{IsOfThese}
 use Rattle.gaz_stored.specs.Filling.{CanBeMirrored, codes_of}
 

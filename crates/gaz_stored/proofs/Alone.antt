@@ -1,10 +1,10 @@
 -- What is told of a hub that remembered nothing at first is told of its keeper.
 use Rattle.std.proofs.Common.{◌≡◌, ◌∙◌, List, [], ◌∷◌, ap, refl, subst, sym, Option, None, Result, Ok, Err}
-use Rattle.gaz_hub.specs.Hubs.{MeetsDoor, Runs, Steps, door_of}
+use Rattle.gaz_steps.specs.Hubs.{MeetsDoor, Runs, Steps, door_of}
 use Rattle.gaz_hub.specs.Seen.{hub_seen}
-use Rattle.gaz_hub.specs.Step.{Command, Door, Response}
+use Rattle.gaz_steps.specs.Step.{Command, Door, Response}
 use Rattle.gaz_hub.specs.declared.hub.Hub.{Hub}
-use Rattle.gaz_hub.proofs.HubRuns.{runs_none, runs_one}
+use Rattle.gaz_steps.proofs.HubRuns.{runs_none, runs_one}
 use Rattle.gaz_commands.specs.Obeying.{Obeys}
 use Rattle.gaz_commands.specs.declared.said.Said.{Said}
 use Rattle.gaz_stored.specs.Ways.{Asks, GoesBy, Way}

@@ -15,9 +15,9 @@ use Rattle.gaz_store.proofs.Whole.{kept_of}
 use Rattle.gaz_store.specs.Opened.{IsMade}
 use Rattle.gaz_store.specs.Store.{seen_in}
 use Rattle.gaz_store.specs.declared.store.Store.{Store}
-use Rattle.gaz_hub.specs.Hubs.{MayHave, door_of, state_of}
-use Rattle.gaz_hub.specs.Step.{new_hub}
-use Rattle.gaz_hub.proofs.Headline.{may_begin}
+use Rattle.gaz_steps.specs.Hubs.{MayHave, door_of, state_of}
+use Rattle.gaz_steps.specs.Step.{new_hub}
+use Rattle.gaz_steps.proofs.Headline.{may_begin}
 use Rattle.gaz_stored.specs.Runs.{StandForRun, hub_in}
 use Rattle.gaz_stored.specs.Stopping.{LeavesItself}
 use Rattle.gaz_stored.specs.Using.{IsOpenedFrom}

@@ -16,13 +16,13 @@ use Rattle.gaz_store.specs.Store.{progress_of, seen_in, working_of}
 use Rattle.gaz_store.specs.declared.progress.Judging.{Judging}
 use Rattle.gaz_store.specs.declared.progress.Judging.TheVariants.{Idle, Open, Broken}
 use Rattle.gaz_store.specs.declared.store.Store.{Store}
-use Rattle.gaz_hub.specs.Hubs.{Runs, StandsFor, door_of, state_of}
+use Rattle.gaz_steps.specs.Hubs.{Runs, StandsFor, door_of, state_of}
 use Rattle.gaz_hub.specs.Seen.{hub_seen}
-use Rattle.gaz_hub.specs.Step.{Command, Door, HubState, Response}
+use Rattle.gaz_steps.specs.Step.{Command, Door, HubState, Response}
 use Rattle.gaz_hub.specs.declared.hub.Hub.{Hub}
 use Rattle.gaz_hub.proofs.Advancing.{may_keep}
-use Rattle.gaz_hub.proofs.HubRuns.{runs_still, runs_then}
-use Rattle.gaz_hub.proofs.Looks.{left_not_open}
+use Rattle.gaz_steps.proofs.HubRuns.{runs_still, runs_then}
+use Rattle.gaz_steps.proofs.Looks.{left_not_open}
 use Rattle.gaz_mirror.specs.Mirrored.{seen_mirrored}
 use Rattle.gaz_mirror.specs.Mirroring.{content_of, mirrored, progress_with}
 use Rattle.gaz_mirror.proofs.Readings.{stands_below}

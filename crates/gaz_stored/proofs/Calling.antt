@@ -20,11 +20,11 @@ use Rattle.gaz_kept.proofs.MetaRows.{none_first}
 use Rattle.gaz_kept.proofs.SameTrees.{same_rows}
 use Rattle.gaz_store.specs.Opened.{IsRefused}
 use Rattle.gaz_store.specs.declared.store.Store.{Store}
-use Rattle.gaz_hub.specs.Growth.{GrownRun, Period, last_register}
-use Rattle.gaz_hub.specs.Hubs.{door_of}
-use Rattle.gaz_hub.specs.Step.{HubState}
-use Rattle.gaz_hub.proofs.Growing.{every_grown_run_holds, growth_keeps_holds}
-use Rattle.gaz_hub.proofs.Receiving.{received_more, run_has_all, run_received}
+use Rattle.gaz_steps.specs.Growth.{GrownRun, Period, last_register}
+use Rattle.gaz_steps.specs.Hubs.{door_of}
+use Rattle.gaz_steps.specs.Step.{HubState}
+use Rattle.gaz_steps.proofs.Growing.{every_grown_run_holds, growth_keeps_holds}
+use Rattle.gaz_steps.proofs.Receiving.{received_more, run_has_all, run_received}
 use Rattle.gaz_stored.specs.Calls.{ArePeriodsOf, CallsAreOne, CameTo, CutOff, GoesOnGrown, Grew, IsFoundAfter, Moved, Refused, StaysIn, Used, Whole, found_last, period}
 use Rattle.gaz_stored.specs.Extending.{StandsStill}
 use Rattle.gaz_stored.specs.Migrating.{MigratesOpened, told_of}

@@ -1,14 +1,14 @@
 -- A hub that a stop left is one to which the first of its commands led, and one that was cut off.
 use Rattle.std.proofs.Common.{◌≡◌, inl, inr, ℕ, List, [], ◌∷◌, ◌++◌, ap, refl, subst, sym}
 use Rattle.gaz_keeper.specs.Keeper.{Content}
-use Rattle.gaz_hub.specs.Hubs.{state_of}
-use Rattle.gaz_hub.specs.Runs.{Run}
-use Rattle.gaz_hub.specs.Standing.{Follows}
-use Rattle.gaz_hub.specs.Step.{Command, Door, HubState, Pose, Response, Submit, blocks}
-use Rattle.gaz_hub.specs.Stops.{IsLater, IsLaterWith, IsLeftAfter, IsLeftBy}
-use Rattle.gaz_hub.specs.declared.question.Question.TheVariants.{Settle}
-use Rattle.gaz_hub.proofs.Leading.{follows_itself}
-use Rattle.gaz_hub.proofs.Runs.{run_then}
+use Rattle.gaz_steps.specs.Hubs.{state_of}
+use Rattle.gaz_steps.specs.Runs.{Run}
+use Rattle.gaz_steps.specs.Standing.{Follows}
+use Rattle.gaz_steps.specs.Step.{Command, Door, HubState, Pose, Response, Submit, blocks}
+use Rattle.gaz_steps.specs.Stops.{IsLater, IsLaterWith, IsLeftAfter, IsLeftBy}
+use Rattle.gaz_steps.specs.declared.question.Question.TheVariants.{Settle}
+use Rattle.gaz_steps.proofs.Leading.{follows_itself}
+use Rattle.gaz_steps.proofs.Runs.{run_then}
 use Rattle.gaz_stored.specs.Stopping.{CutReceiving, CutSettling, RunsCutOff, cut_receiving, cut_settling}
 
 module _ (d : Door) (hub : HubState) (commands : List Command) (responses : List Response) where

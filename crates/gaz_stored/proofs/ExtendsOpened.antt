@@ -27,9 +27,9 @@ use Rattle.gaz_store.specs.Extending.{KeepsContent, WritesRegister}
 use Rattle.gaz_store.specs.Store.{seen_in}
 use Rattle.gaz_store.specs.declared.store.Store.{Store}
 use Rattle.gaz_kept.proofs.SameTrees.{same_content, same_kept, same_rows}
-use Rattle.gaz_hub.specs.Hubs.{AreKnown, door_of, state_of}
-use Rattle.gaz_hub.specs.Standing.{IsPartial}
-use Rattle.gaz_hub.specs.Step.{HubState}
+use Rattle.gaz_steps.specs.Hubs.{AreKnown, door_of, state_of}
+use Rattle.gaz_steps.specs.Standing.{IsPartial}
+use Rattle.gaz_steps.specs.Step.{HubState}
 use Rattle.gaz_stored.specs.Extending.{ExtendsOpened, StandsStill, StopsBetween}
 use Rattle.gaz_stored.specs.Runs.{StandForRun, hub_in}
 use Rattle.gaz_stored.specs.Stopping.{LeavesItself, MayBeLeft}

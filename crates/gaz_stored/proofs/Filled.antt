@@ -6,7 +6,7 @@ use Rattle.gaz_views.specs.View.{empty_view}
 use Rattle.gaz_keeper.specs.Keeper.{Content, Idle, Seen, after_stop}
 use Rattle.gaz_shelf.specs.Mem.{seen_in}
 use Rattle.gaz_shelf.specs.declared.mem_shelf.MemShelf.{MemShelf}
-use Rattle.gaz_hub.specs.Hubs.{StandsFor, door_of}
+use Rattle.gaz_steps.specs.Hubs.{StandsFor, door_of}
 use Rattle.gaz_hub.specs.Seen.{hub_seen}
 use Rattle.gaz_waiters.specs.Remembered.{Remembered}
 use Rattle.gaz_hub.specs.Waiting.{remembering}

@@ -11,16 +11,16 @@ use Rattle.gaz_kept.specs.Contents.{content_in}
 use Rattle.gaz_calls.specs.Seen.{IsUnharmed, kept_by_trees}
 use Rattle.gaz_store.specs.Store.{seen_in}
 use Rattle.gaz_store.specs.declared.store.Store.{Store}
-use Rattle.gaz_hub.specs.Found.{HasFilesOf}
-use Rattle.gaz_hub.specs.Hubs.{AreKnown, Runs, StandsFor, all_declined, door_of, state_of}
-use Rattle.gaz_hub.specs.Runs.{Run}
-use Rattle.gaz_hub.specs.Standing.{IsPartial}
-use Rattle.gaz_hub.specs.Step.{Command, Door, HubState, Response}
-use Rattle.gaz_hub.specs.Stops.{IsLeftAfter, StopsRun}
-use Rattle.gaz_hub.proofs.Answers.{every_answer_holds}
-use Rattle.gaz_hub.proofs.Finding.{every_stop_over, run_known}
-use Rattle.gaz_hub.proofs.Receiving.{all_told, run_has_all}
-use Rattle.gaz_hub.proofs.Runs.{every_run_from_holds}
+use Rattle.gaz_steps.specs.Found.{HasFilesOf}
+use Rattle.gaz_steps.specs.Hubs.{AreKnown, Runs, StandsFor, all_declined, door_of, state_of}
+use Rattle.gaz_steps.specs.Runs.{Run}
+use Rattle.gaz_steps.specs.Standing.{IsPartial}
+use Rattle.gaz_steps.specs.Step.{Command, Door, HubState, Response}
+use Rattle.gaz_steps.specs.Stops.{IsLeftAfter, StopsRun}
+use Rattle.gaz_steps.proofs.Answers.{every_answer_holds}
+use Rattle.gaz_steps.proofs.Finding.{every_stop_over, run_known}
+use Rattle.gaz_steps.proofs.Receiving.{all_told, run_has_all}
+use Rattle.gaz_steps.proofs.Runs.{every_run_from_holds}
 use Rattle.gaz_stored.specs.Runs.{GoesOn, Went, WentOn, hub_in}
 use Rattle.gaz_stored.specs.Stopping.{FindsLater, RunsCutOff}
 use Rattle.gaz_stored.proofs.Cutting.{cut_after, cut_at_once}

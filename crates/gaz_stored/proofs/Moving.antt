@@ -10,9 +10,9 @@ use Rattle.gaz_views.specs.View.{empty_view}
 use Rattle.gaz_kept.specs.Opening.{Tells, Untouched}
 use Rattle.gaz_kept.specs.OpeningFirst.{MayMove, TellsFirst, has_first}
 use Rattle.gaz_kept.proofs.Migrated.{migration_stands}
-use Rattle.gaz_hub.specs.Hubs.{AreKnown, door_of, state_of}
-use Rattle.gaz_hub.specs.Standing.{IsPartial}
-use Rattle.gaz_hub.specs.Step.{HubState}
+use Rattle.gaz_steps.specs.Hubs.{AreKnown, door_of, state_of}
+use Rattle.gaz_steps.specs.Standing.{IsPartial}
+use Rattle.gaz_steps.specs.Step.{HubState}
 use Rattle.gaz_store.specs.Migrating.{IsMoved}
 use Rattle.gaz_store.specs.Store.{seen_in}
 use Rattle.gaz_store.specs.declared.store.Store.{Store}

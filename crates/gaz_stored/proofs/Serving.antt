@@ -1,10 +1,10 @@
 -- Conversations of a hub, one after another.
 use Rattle.std.proofs.Common.{◌≡◌, ◌+◌, ℕ, List, [], ◌++◌, ap, subst, sym}
 use Rattle.gaz_keeper.specs.Keeper.{Seen}
-use Rattle.gaz_hub.specs.Hubs.{Runs, door_of}
+use Rattle.gaz_steps.specs.Hubs.{Runs, door_of}
 use Rattle.gaz_hub.specs.Seen.{hub_seen}
 use Rattle.gaz_hub.specs.declared.hub.Hub.{Hub}
-use Rattle.gaz_hub.proofs.HubRuns.{runs_none, runs_then}
+use Rattle.gaz_steps.proofs.HubRuns.{runs_none, runs_then}
 use Rattle.gaz_stored.specs.Meetings.{Meeting}
 use Rattle.gaz_stored.specs.Serving.{Next, Nobody, Rested, Serves, Talked, TalksOrRests, commands_at, responses_at}
 

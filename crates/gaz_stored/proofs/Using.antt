@@ -15,9 +15,9 @@ use Rattle.gaz_store.specs.Opened.{IsMade, IsOpened}
 use Rattle.gaz_store.specs.Store.{seen_beside, seen_in}
 use Rattle.gaz_store.specs.declared.progress.Judging.{Judging}
 use Rattle.gaz_store.specs.declared.store.Store.{Store}
-use Rattle.gaz_hub.specs.Hubs.{Runs, door_of}
-use Rattle.gaz_hub.specs.Step.{Command, Response, new_hub}
-use Rattle.gaz_hub.proofs.HubRuns.{runs_none}
+use Rattle.gaz_steps.specs.Hubs.{Runs, door_of}
+use Rattle.gaz_steps.specs.Step.{Command, Response, new_hub}
+use Rattle.gaz_steps.proofs.HubRuns.{runs_none}
 use Rattle.gaz_stored.specs.Runs.{GoesOn, StandForRun, hub_in}
 use Rattle.gaz_stored.specs.Using.{IsOpenedFrom, IsSame, UsedAs, Uses, UsesOpened}
 use Rattle.gaz_stored.specs.Ways.{Way}

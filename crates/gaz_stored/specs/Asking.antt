@@ -1,6 +1,6 @@
 -- What a call asks of a hub.
 use Rattle.std.specs.Prelude.{ℕ, List, Option, Result}
-use Rattle.gaz_hub.specs.Step.{Command}
+use Rattle.gaz_steps.specs.Step.{Command}
 use Rattle.gaz_commands.specs.Asking.{asks_address, asks_extract, asks_standing, asks_to_submit}
 use Rattle.gaz_commands.specs.declared.said.Said.{Said}
 use Rattle.gaz_words.specs.declared.command.Call.{Call}

@@ -10,9 +10,9 @@ use Rattle.gaz_calls.specs.Seen.{IsUnharmed}
 use Rattle.gaz_calls.specs.WorkedGrowing.{county, town}
 use Rattle.gaz_store.specs.Opened.{IsRefused}
 use Rattle.gaz_store.specs.declared.store.Store.{Store}
-use Rattle.gaz_hub.specs.Growth.{GrownRun, Period}
-use Rattle.gaz_hub.specs.Step.{Command, Pose, Response}
-use Rattle.gaz_hub.specs.declared.question.Question.TheVariants.{Settle}
+use Rattle.gaz_steps.specs.Growth.{GrownRun, Period}
+use Rattle.gaz_steps.specs.Step.{Command, Pose, Response}
+use Rattle.gaz_steps.specs.declared.question.Question.TheVariants.{Settle}
 use Rattle.gaz_stored.specs.Calls.{AreAllPeriods, AreOneRun, ArePeriodsOf, Call, FollowOn, Grew}
 use Rattle.gaz_stored.specs.Calls.{Refused, Used, Whole}
 use Rattle.gaz_stored.specs.Calls.{found_last, period, periods_in}

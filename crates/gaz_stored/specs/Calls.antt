@@ -11,9 +11,9 @@ use Rattle.gaz_calls.specs.Seen.{IsUnharmed}
 use Rattle.gaz_calls.specs.declared.growing.ExtendFault.{ExtendFault}
 use Rattle.gaz_store.specs.Opened.{IsRefused}
 use Rattle.gaz_store.specs.declared.store.Store.{Store}
-use Rattle.gaz_hub.specs.Growth.{AbidesGrown, GrownRun, Period, last_register}
-use Rattle.gaz_hub.specs.Step.{Command, HubState, Response}
-use Rattle.gaz_hub.specs.Stops.{HasReceived}
+use Rattle.gaz_steps.specs.Growth.{AbidesGrown, GrownRun, Period, last_register}
+use Rattle.gaz_steps.specs.Step.{Command, HubState, Response}
+use Rattle.gaz_steps.specs.Stops.{HasReceived}
 use Rattle.gaz_stored.specs.Extending.{ExtendsOpened}
 use Rattle.gaz_stored.specs.Migrating.{MigratesOpened}
 use Rattle.gaz_stored.specs.Runs.{IsStoreOf, WentOn, hub_in}

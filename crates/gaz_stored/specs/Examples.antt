@@ -12,7 +12,7 @@ use Rattle.gaz_tables.specs.Schema.{receiveds, store_schema, versions}
 use Rattle.gaz_kept.specs.Examples.{four_rows, six_files}
 use Rattle.gaz_kept.specs.declared.refusal.StoreRefusal.TheVariants.{BadSchema, Fault}
 use Rattle.gaz_kept.specs.declared.refusal.StoreRefusal.TheVariants.{OtherRegister}
-use Rattle.gaz_hub.specs.Step.{Command, HubState, Submit}
+use Rattle.gaz_steps.specs.Step.{Command, HubState, Submit}
 use Rattle.gaz_commands.specs.declared.said.Said.{Said}
 use Rattle.gaz_stored.specs.Announcing.{IsAnnounced, SaysWhere, listening}
 use Rattle.gaz_stored.specs.Meetings.{Missed}

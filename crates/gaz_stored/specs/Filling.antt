@@ -8,9 +8,9 @@ use Rattle.gaz_shelf.specs.Mem.{seen_in}
 use Rattle.gaz_shelf.specs.declared.mem_shelf.MemShelf.{MemShelf}
 use Rattle.gaz_loaded.specs.Loading.{IsLoaded}
 pub use Rattle.gaz_mirror.specs.Bare.{RestsBare}
-use Rattle.gaz_hub.specs.Hubs.{StandsFor}
-use Rattle.gaz_hub.specs.Runs.{Run}
-use Rattle.gaz_hub.specs.Step.{Command, Door, HubState, Response}
+use Rattle.gaz_steps.specs.Hubs.{StandsFor}
+use Rattle.gaz_steps.specs.Runs.{Run}
+use Rattle.gaz_steps.specs.Step.{Command, Door, HubState, Response}
 
 -- each file came as a volume from 1 on
 abbrev pub AreVolumes : Received → Type 0

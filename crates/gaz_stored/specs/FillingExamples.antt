@@ -4,8 +4,8 @@ use Rattle.std.specs.FinMap as map
 use Rattle.gaz_keeper.specs.Examples.{first_received, kept_safe}
 use Rattle.gaz_keeper.specs.Keeper.{Content, Seen, after_stop, empty_content}
 use Rattle.gaz_keeper.specs.Received.{with_file}
-use Rattle.gaz_hub.specs.Hubs.{door_of}
-use Rattle.gaz_hub.specs.Sample.{sample_custodians}
+use Rattle.gaz_steps.specs.Hubs.{door_of}
+use Rattle.gaz_steps.specs.Sample.{sample_custodians}
 use Rattle.gaz_stored.specs.Filling.{AreVolumes, CanBeMirrored, RestsBare, codes_of}
 
 -- a keeper that is its content, and never judges

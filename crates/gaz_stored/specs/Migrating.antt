@@ -16,9 +16,9 @@ use Rattle.gaz_kept.specs.Opening.{Judges, Tells, Untouched, has_all, schema_num
 use Rattle.gaz_kept.specs.OpeningFirst.{IsOfFirst, JudgesFirst, TellsFirst, has_first}
 use Rattle.gaz_kept.specs.declared.refusal.StoreRefusal.{StoreRefusal}
 use Rattle.gaz_kept.specs.declared.refusal.StoreRefusal.TheVariants.{BadSchema}
-use Rattle.gaz_hub.specs.Hubs.{AreKnown, door_of, state_of}
-use Rattle.gaz_hub.specs.Standing.{IsPartial}
-use Rattle.gaz_hub.specs.Step.{HubState}
+use Rattle.gaz_steps.specs.Hubs.{AreKnown, door_of, state_of}
+use Rattle.gaz_steps.specs.Standing.{IsPartial}
+use Rattle.gaz_steps.specs.Step.{HubState}
 use Rattle.gaz_calls.specs.Seen.{IsUnharmed}
 use Rattle.gaz_store.specs.Opened.{IsRefused}
 use Rattle.gaz_stored.specs.Runs.{IsStoreOf, hub_in}

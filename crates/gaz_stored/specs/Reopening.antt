@@ -12,7 +12,7 @@ use Rattle.gaz_tables.specs.Tables.{rows_of}
 use Rattle.gaz_kept.specs.Opening.{IsOf, Judges}
 use Rattle.gaz_kept.specs.declared.refusal.StoreRefusal.{StoreRefusal}
 use Rattle.gaz_kept.specs.declared.refusal.StoreRefusal.TheVariants.{Fault}
-use Rattle.gaz_hub.specs.Step.{Command, HubState, Response}
+use Rattle.gaz_steps.specs.Step.{Command, HubState, Response}
 use Rattle.gaz_stored.specs.Stopping.{FindsLater, MayBeLeft}
 
 -- the tables are a store's, and of this register, whatever they stand for

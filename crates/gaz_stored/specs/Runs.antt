@@ -9,11 +9,11 @@ use Rattle.gaz_views.specs.View.{empty_view}
 use Rattle.gaz_kept.specs.Contents.{content_in}
 use Rattle.gaz_kept.specs.Kept.{IsKept}
 use Rattle.gaz_kept.specs.Opening.{IsOf}
-use Rattle.gaz_hub.specs.Answers.{AllReadOff}
-use Rattle.gaz_hub.specs.Hubs.{AreKnown, door_of, state_of}
-use Rattle.gaz_hub.specs.Runs.{AbidesFrom, Run}
-use Rattle.gaz_hub.specs.Standing.{IsPartial}
-use Rattle.gaz_hub.specs.Step.{Command, HubState, Response}
+use Rattle.gaz_steps.specs.Answers.{AllReadOff}
+use Rattle.gaz_steps.specs.Hubs.{AreKnown, door_of, state_of}
+use Rattle.gaz_steps.specs.Runs.{AbidesFrom, Run}
+use Rattle.gaz_steps.specs.Standing.{IsPartial}
+use Rattle.gaz_steps.specs.Step.{Command, HubState, Response}
 
 -- the hub that the tables stand for: what was received, and how far it is judged
 abbrev pub hub_in : Database → HubState

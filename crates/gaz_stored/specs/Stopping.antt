@@ -5,14 +5,15 @@ use Rattle.sqlite.specs.State.{HasCleanDisk, State}
 use Rattle.sqlite_trees.specs.Tree.{Trees}
 use Rattle.gaz_register.specs.Registers.{RegisterValue}
 use Rattle.gaz_keeper.specs.declared.fault.ShelfFault.TheVariants.{Store}
-use Rattle.gaz_hub.specs.Found.{HasFilesOf}
-use Rattle.gaz_hub.specs.Hubs.{door_of}
-use Rattle.gaz_hub.specs.Runs.{Run}
-use Rattle.gaz_hub.specs.Step.{Command, Door, HubState, Pose, Replied, Response, Submit, Submitted}
-use Rattle.gaz_hub.specs.Stops.{HasAllTold, HasReceived}
-use Rattle.gaz_hub.specs.declared.answer.Answer.TheVariants.{Refused}
-use Rattle.gaz_hub.specs.declared.question.Question.TheVariants.{Settle}
-use Rattle.gaz_hub.specs.declared.refusal.Refusal.TheVariants.{NotReceived, ReceivedUnsettled}
+use Rattle.gaz_steps.specs.Found.{HasFilesOf}
+use Rattle.gaz_steps.specs.Hubs.{door_of}
+use Rattle.gaz_steps.specs.Runs.{Run}
+use Rattle.gaz_steps.specs.Step.{Command, Door, HubState, Pose, Replied, Response, Submit}
+use Rattle.gaz_steps.specs.Step.{Submitted}
+use Rattle.gaz_steps.specs.Stops.{HasAllTold, HasReceived}
+use Rattle.gaz_steps.specs.declared.answer.Answer.TheVariants.{Refused}
+use Rattle.gaz_steps.specs.declared.question.Question.TheVariants.{Settle}
+use Rattle.gaz_steps.specs.declared.refusal.Refusal.TheVariants.{NotReceived, ReceivedUnsettled}
 use Rattle.gaz_calls.specs.Seen.{IsUnharmed}
 use Rattle.gaz_stored.specs.Runs.{IsStoreOf, hub_in}
 

@@ -15,7 +15,7 @@ use Rattle.gaz_calls.specs.Seen.{IsUnharmed}
 use Rattle.gaz_store.specs.Opened.{IsOpened}
 use Rattle.gaz_store.specs.Store.{seen_in}
 use Rattle.gaz_store.specs.declared.store.Store.{Store}
-use Rattle.gaz_hub.specs.Step.{Command, Response}
+use Rattle.gaz_steps.specs.Step.{Command, Response}
 use Rattle.gaz_stored.specs.Runs.{GoesOn, StandForRun, WentOn, hub_in}
 use Rattle.gaz_stored.specs.Stopping.{FindsLater, LeavesItself}
 use Rattle.gaz_stored.specs.Ways.{GoesBy, Way}

@@ -7,13 +7,13 @@ use Rattle.gaz_shelf.specs.Mem.{seen_in as memory}
 use Rattle.gaz_shelf.specs.declared.mem_shelf.MemShelf.{MemShelf}
 use Rattle.gaz_mirror.specs.Mirrored.{seen_mirrored}
 use Rattle.gaz_mirror.specs.declared.mirror.Mirror.{Mirror}
-use Rattle.gaz_hub.specs.Hubs.{MeetsDoor, Runs, door_of}
+use Rattle.gaz_steps.specs.Hubs.{MeetsDoor, Runs, door_of}
 use Rattle.gaz_hub.specs.Seen.{RemembersNothing, hub_seen}
-use Rattle.gaz_hub.specs.Step.{Command, Pose, Replied, Response}
+use Rattle.gaz_steps.specs.Step.{Command, Pose, Replied, Response}
 use Rattle.gaz_hub.specs.Telling.{RepliesTo}
 use Rattle.gaz_hub.specs.declared.hub.Hub.{Hub}
-use Rattle.gaz_hub.specs.declared.question.Question.TheVariants.{Settle}
-use Rattle.gaz_hub.specs.declared.refusal.Refusal.{Refusal}
+use Rattle.gaz_steps.specs.declared.question.Question.TheVariants.{Settle}
+use Rattle.gaz_steps.specs.declared.refusal.Refusal.{Refusal}
 use Rattle.gaz_commands.specs.Saying.{said_to}
 use Rattle.gaz_commands.specs.declared.said.Said.{Said}
 use Rattle.gaz_exchange.specs.Conversing.{Conversation, Transfer}

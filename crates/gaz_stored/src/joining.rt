@@ -3,7 +3,7 @@ ghost use Rattle.std.specs.Prelude.{◌≡◌, None};
 ghost use Rattle.std.specs.Option.{ForSome};
 ghost use Rattle.gaz_keeper.specs.Keeper.{Idle};
 ghost use Rattle.gaz_keeper.specs.Telling.{IsNotJudging};
-ghost use Rattle.gaz_hub.specs.Hubs.{StandsFor, door_of};
+ghost use Rattle.gaz_steps.specs.Hubs.{StandsFor, door_of};
 ghost use Rattle.gaz_mirror.specs.Mirrored.{seen_mirrored};
 ghost use Rattle.gaz_stored.specs.Filling.{CanBeMirrored, RestsBare};
 ghost use Rattle.gaz_stored.specs.Ways.{BeginsOver};

@@ -6,7 +6,7 @@ use Rattle.sqlite_disk.specs.declared.Disk as disk
 use Rattle.sqlite_disk.specs.declared.Files.{Files}
 use Rattle.gaz_register.specs.Registers.{IsRegister, RegisterValue}
 use Rattle.gaz_calls.specs.Seen.{IsUnharmed}
-use Rattle.gaz_hub.specs.Step.{new_hub}
+use Rattle.gaz_steps.specs.Step.{new_hub}
 use Rattle.gaz_exchange.specs.Conversing.{Transfer}
 use Rattle.gaz_stored.specs.Calls as stored
 use Rattle.gaz_stored.specs.Meetings.{Meeting}

@@ -9,7 +9,7 @@ use Rattle.sqlite_disk.specs.declared.Files.{Files}
 use Rattle.gaz_register.specs.Registers.{IsRegister, RegisterValue}
 use Rattle.gaz_tables.specs.Creating.{HasRoom}
 use Rattle.gaz_calls.specs.Seen.{IsUnharmed}
-use Rattle.gaz_hub.specs.Step.{new_hub}
+use Rattle.gaz_steps.specs.Step.{new_hub}
 use Rattle.gaz_exchange.specs.Conversing.{Transfer}
 use Rattle.gaz_stored.specs.Runs.{GoesOn, IsStoreOf}
 use Rattle.gaz_filing.specs.Filing.{Makes, OverFiles}

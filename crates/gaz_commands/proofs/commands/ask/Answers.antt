@@ -1,5 +1,5 @@
 use Rattle.std.proofs.Common.{◌∙◌, ap}
-use Rattle.gaz_hub.specs.Step.{Replied}
+use Rattle.gaz_steps.specs.Step.{Replied}
 use Rattle.gaz_commands.specs.Saying.{said_told}
 use Rattle.gaz_commands.proofs.commands.ask.Goals as goal
 

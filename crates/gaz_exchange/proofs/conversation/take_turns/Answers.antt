@@ -1,5 +1,5 @@
 use Rattle.std.proofs.Common.{◌∙◌, ap, arith, refl}
-use Rattle.gaz_hub.specs.Hubs.{door_of}
+use Rattle.gaz_steps.specs.Hubs.{door_of}
 use Rattle.gaz_exchange.proofs.TurnFacts.{turn_at}
 use Rattle.gaz_exchange.proofs.ConversationEnds.{finishes}
 use Rattle.gaz_exchange.proofs.ConversationFacts.{ends_closed, ends_most, ends_over, so_far_more, so_far_none, stops}

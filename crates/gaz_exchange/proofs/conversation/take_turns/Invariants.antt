@@ -1,5 +1,5 @@
 use Rattle.std.proofs.Common.{◌≡◌}
-use Rattle.gaz_hub.specs.Hubs.{door_of}
+use Rattle.gaz_steps.specs.Hubs.{door_of}
 use Rattle.gaz_hub.specs.Seen.{hub_seen}
 use Rattle.gaz_exchange.proofs.ConversationFacts.{IsSoFar}
 use Rattle.gaz_exchange.proofs.conversation.take_turns.Given as goal

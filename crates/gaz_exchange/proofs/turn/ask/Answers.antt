@@ -1,5 +1,5 @@
 -- What isn't for the hub leaves it as it is.
-use Rattle.gaz_hub.specs.Hubs.{door_of}
+use Rattle.gaz_steps.specs.Hubs.{door_of}
 use Rattle.gaz_hub.specs.Seen.{hub_seen}
 use Rattle.gaz_exchange.proofs.TurnFacts.{not_asked}
 use Rattle.gaz_exchange.proofs.turn.ask.Goals as goal

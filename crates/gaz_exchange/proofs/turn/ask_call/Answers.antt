@@ -1,5 +1,5 @@
 use Rattle.std.proofs.Common.{◌∙◌, ap}
-use Rattle.gaz_hub.specs.Step.{Replied, Submitted}
+use Rattle.gaz_steps.specs.Step.{Replied, Submitted}
 use Rattle.gaz_exchange.specs.Replies.{reply_told}
 use Rattle.gaz_exchange.proofs.turn.ask_call.Goals as goal
 

@@ -1,4 +1,4 @@
-use Rattle.gaz_hub.proofs.HubRuns.{calls_make_runs}
+use Rattle.gaz_steps.proofs.HubRuns.{calls_make_runs}
 use Rattle.gaz_hub.specs.Seen.{hub_seen}
 use Rattle.gaz_hub.proofs.laws.calls_make_runs.Goals as goal
 

@@ -1,4 +1,4 @@
-use Rattle.gaz_hub.proofs.Headline.{every_settled_run_from_over}
+use Rattle.gaz_steps.proofs.Headline.{every_settled_run_from_over}
 use Rattle.gaz_hub.specs.Seen.{hub_seen}
 use Rattle.gaz_hub.proofs.laws.every_settled_run_from_over.Goals as goal
 

@@ -1,4 +1,4 @@
-use Rattle.gaz_hub.proofs.Finding.{every_stop_over}
+use Rattle.gaz_steps.proofs.Finding.{every_stop_over}
 use Rattle.gaz_hub.specs.Seen.{hub_seen}
 use Rattle.gaz_hub.proofs.laws.every_stop_over.Goals as goal
 

@@ -1,7 +1,7 @@
 -- What is left finds what all find.
 use Rattle.std.proofs.Common.{◌≡◌, ◌≤◌, drop}
 use Rattle.gaz_keeper.specs.Keeper.{Keeps}
-use Rattle.gaz_hub.specs.Outcomes.{first_unreached}
+use Rattle.gaz_steps.specs.Outcomes.{first_unreached}
 use Rattle.gaz_hub.proofs.looking.first_unreached.Given as goal
 
 abbrev pub invariant-loop-basis : goal.invariant-loop-basis

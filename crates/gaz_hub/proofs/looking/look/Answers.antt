@@ -4,7 +4,8 @@ use Rattle.gaz_keeper.specs.Board.{Board}
 use Rattle.gaz_keeper.specs.Keeper.{Content}
 use Rattle.gaz_hub.specs.Settling.{IsReadAs}
 use Rattle.gaz_hub.specs.declared.looking.Next.{Next}
-use Rattle.gaz_hub.proofs.Looks.{looks_then, next_here}
+use Rattle.gaz_steps.proofs.Looks.{looks_then}
+use Rattle.gaz_hub.proofs.Looks.{next_here}
 use Rattle.gaz_hub.proofs.looking.look.Goals as goal
 
 same_file : (k l : Content) (c volume : ℕ) (bytes others : List ℕ) (n : Next) → k ≡ l → bytes ≡ others → IsReadAs k.board c volume bytes n → IsReadAs l.board c volume others n

@@ -1,6 +1,7 @@
 -- What it waits for is what it is found to wait for.
 use Rattle.std.proofs.Common.{◌∙◌}
-use Rattle.gaz_hub.proofs.Looks.{looks_to, wanted_as}
+use Rattle.gaz_steps.proofs.Looks.{looks_to}
+use Rattle.gaz_hub.proofs.Looks.{wanted_as}
 use Rattle.gaz_hub.proofs.looking.wants.Goals as goal
 
 pub returns : goal.returns

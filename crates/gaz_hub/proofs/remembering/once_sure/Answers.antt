@@ -2,7 +2,7 @@
 use Rattle.std.proofs.Common.{refl}
 use Rattle.std.specs.Prelude.{Ok, ⊤}
 use Rattle.gaz_hub.proofs.Advancing.{is_err}
-use Rattle.gaz_hub.proofs.Looks.{looks_nowhere}
+use Rattle.gaz_steps.proofs.Looks.{looks_nowhere}
 use Rattle.gaz_hub.proofs.remembering.once_sure.Goals as goal
 
 pub returns-in_err-told-clause-sured : goal.returns-in_err-told-clause-sured

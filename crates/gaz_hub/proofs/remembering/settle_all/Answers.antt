@@ -1,7 +1,7 @@
 -- What is remembered is used, and what is known at the end is remembered.
 use Rattle.std.proofs.Common.{[], sym, subst}
 use Rattle.std.specs.Prelude.{⊤, Some}
-use Rattle.gaz_hub.specs.Hubs.{door_of}
+use Rattle.gaz_steps.specs.Hubs.{door_of}
 use Rattle.gaz_hub.specs.Settling.{Tells}
 use Rattle.gaz_hub.specs.Waiting.{remembering}
 use Rattle.gaz_hub.proofs.Advancing.{is_err}

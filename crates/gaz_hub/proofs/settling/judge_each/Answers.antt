@@ -1,6 +1,6 @@
 -- One custodian after another.
 use Rattle.std.proofs.Common.{◌∙◌, refl, sym, subst}
-use Rattle.gaz_hub.specs.Hubs.{door_of}
+use Rattle.gaz_steps.specs.Hubs.{door_of}
 use Rattle.gaz_hub.specs.Settling.{Tries}
 use Rattle.gaz_hub.proofs.Advancing.{is_err, neither, tries_nothing, tries_on, tries_stopped}
 use Rattle.gaz_hub.proofs.Memory.{rest_all, rest_more, rest_still}

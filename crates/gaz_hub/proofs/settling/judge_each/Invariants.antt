@@ -1,7 +1,7 @@
 -- So far all is as before, or so many files were judged; and who rested rests.
 use Rattle.std.proofs.Common.{◌≡◌, take}
 use Rattle.std.specs.Prelude.{Ok}
-use Rattle.gaz_hub.specs.Hubs.{door_of}
+use Rattle.gaz_steps.specs.Hubs.{door_of}
 use Rattle.gaz_hub.specs.Settling.{Tries}
 use Rattle.gaz_hub.specs.Waiting.{RestAfter}
 use Rattle.gaz_hub.proofs.settling.judge_each.Given as goal

@@ -3,12 +3,12 @@ use Rattle.std.proofs.Common.{◌≡◌, sym, subst}
 use Rattle.gaz_changefile.specs.Reading.{Bad, Good}
 use Rattle.gaz_register.specs.Registers.{blocks_of}
 use Rattle.gaz_keeper.specs.declared.fault.ShelfFault.TheVariants.{Memory}
-use Rattle.gaz_hub.specs.Hubs.{door_of}
+use Rattle.gaz_steps.specs.Hubs.{door_of}
 use Rattle.gaz_hub.specs.Settling.{Tries}
 use Rattle.gaz_hub.specs.declared.looking.Next.TheVariants as next
 use Rattle.gaz_hub.proofs.Advancing.{adds_after, adds_judged, adds_skipped, asks_bad, asks_good, is_err, stops_after, tries_broken, tries_forgotten, tries_judged, tries_past}
 use Rattle.gaz_hub.proofs.Memory.{rest_done, rest_judged, rest_waiting}
-use Rattle.gaz_hub.proofs.Looks.{left_not_open}
+use Rattle.gaz_steps.proofs.Looks.{left_not_open}
 use Rattle.gaz_hub.proofs.Stopping.{marks_judged, marks_skipped}
 use Rattle.gaz_hub.proofs.settling.judge_next.Goals as goal
 

@@ -1,7 +1,7 @@
 -- Round after round.
 use Rattle.std.proofs.Common.{◌≡◌, ℕ, sym, ap, subst, arith, length}
 use Rattle.std.specs.Prelude.{⊤, Ok, Some}
-use Rattle.gaz_hub.specs.Hubs.{door_of}
+use Rattle.gaz_steps.specs.Hubs.{door_of}
 use Rattle.gaz_hub.specs.Settling.{Tells, Tries}
 use Rattle.gaz_hub.specs.Waiting.{remembering}
 use Rattle.gaz_hub.proofs.Advancing.{advances_less, advances_then, is_err}

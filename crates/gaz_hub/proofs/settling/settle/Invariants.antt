@@ -1,6 +1,6 @@
 -- Each round so far judged a file, what was judged isn't left, and who rested rests.
 use Rattle.std.proofs.Common.{◌+◌, ◌-◌, ◌≤◌, []}
-use Rattle.gaz_hub.specs.Hubs.{door_of}
+use Rattle.gaz_steps.specs.Hubs.{door_of}
 use Rattle.gaz_hub.specs.Settling.{Advances}
 use Rattle.gaz_hub.specs.Waiting.{RestAfter}
 use Rattle.gaz_hub.proofs.settling.settle.Given as goal

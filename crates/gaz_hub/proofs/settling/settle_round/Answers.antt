@@ -1,6 +1,6 @@
 -- Those who were to be looked at are looked at.
 use Rattle.std.proofs.Common.{◌∙◌}
-use Rattle.gaz_hub.specs.Hubs.{door_of}
+use Rattle.gaz_steps.specs.Hubs.{door_of}
 use Rattle.gaz_hub.proofs.Memory.{rest_of_taken}
 use Rattle.gaz_hub.proofs.settling.settle_round.Goals as goal
 

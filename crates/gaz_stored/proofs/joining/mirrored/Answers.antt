@@ -1,6 +1,6 @@
 -- The mirror stands for what the keeper did.
 use Rattle.std.proofs.Common.{subst, sym}
-use Rattle.gaz_hub.specs.Hubs.{StandsFor, door_of}
+use Rattle.gaz_steps.specs.Hubs.{StandsFor, door_of}
 use Rattle.gaz_mirror.specs.Mirrored.{seen_mirrored}
 use Rattle.gaz_shelf.specs.Mem.{seen_in}
 use Rattle.gaz_stored.proofs.Filled.{of_made, stands_mirrored}

@@ -1,10 +1,10 @@
 -- The hub over a mirror has the register that it was given, settles, and its keeper is left.
 use Rattle.std.proofs.Common.{◌∙◌, [], ◌∷◌, refl, subst, sym}
-use Rattle.gaz_hub.specs.Hubs.{Runs, door_of, or_not_received}
+use Rattle.gaz_steps.specs.Hubs.{Runs, door_of, or_not_received}
 use Rattle.gaz_hub.specs.Seen.{hub_seen}
-use Rattle.gaz_hub.specs.Step.{Pose, Replied}
-use Rattle.gaz_hub.specs.declared.question.Question.TheVariants.{Settle}
-use Rattle.gaz_hub.proofs.HubRuns.{runs_one, runs_then}
+use Rattle.gaz_steps.specs.Step.{Pose, Replied}
+use Rattle.gaz_steps.specs.declared.question.Question.TheVariants.{Settle}
+use Rattle.gaz_steps.proofs.HubRuns.{runs_one, runs_then}
 use Rattle.gaz_mirror.specs.Mirrored.{seen_mirrored}
 use Rattle.gaz_stored.proofs.Below.{left_below, over_keeper}
 use Rattle.gaz_stored.proofs.Meetings.{with_same}

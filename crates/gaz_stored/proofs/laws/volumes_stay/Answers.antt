@@ -2,11 +2,11 @@
 use Rattle.std.proofs.Common.{◌≡◌, ◌≤◌, ℕ, Bool, true, false, cond, not, List, arith, Option, Some, None, refl}
 use Rattle.std.proofs.lemmas.Bool.Decides.{nat_tests}
 use Rattle.gaz_register.specs.Registers.{knows}
-use Rattle.gaz_hub.specs.Step.{Door, file_refusal, is_volume}
-use Rattle.gaz_hub.specs.declared.refusal.DoorRefusal.{DoorRefusal}
-use Rattle.gaz_hub.specs.declared.refusal.DoorRefusal.TheVariants as at_door
-use Rattle.gaz_hub.proofs.AnswerSteps.{early_let_in}
-use Rattle.gaz_hub.proofs.Finding.{run_so}
+use Rattle.gaz_steps.specs.Step.{Door, file_refusal, is_volume}
+use Rattle.gaz_steps.specs.declared.refusal.DoorRefusal.{DoorRefusal}
+use Rattle.gaz_steps.specs.declared.refusal.DoorRefusal.TheVariants as at_door
+use Rattle.gaz_steps.proofs.Known.{early_let_in}
+use Rattle.gaz_steps.proofs.Finding.{run_so}
 use Rattle.gaz_stored.specs.Filling.{VolumesStay}
 use Rattle.gaz_stored.proofs.laws.volumes_stay.Goals as goal
 

@@ -1,7 +1,7 @@
 -- Worked examples on calls one after another.
 use Rattle.std.proofs.Common.{◌≡◌, ◌∙◌, List, [], ◌∷◌, ◌++◌, refl, sym, true≢false}
-use Rattle.gaz_hub.specs.Growth.{Period}
-use Rattle.gaz_hub.specs.Step.{Command}
+use Rattle.gaz_steps.specs.Growth.{Period}
+use Rattle.gaz_steps.specs.Step.{Command}
 use Rattle.gaz_stored.specs.CallExamples.{WorkedCuts}
 use Rattle.gaz_stored.specs.Examples.{sends}
 use Rattle.gaz_stored.specs.Stopping.{CutReceiving, CutSettling, IsCutTo, cut_receiving}

@@ -8,15 +8,15 @@ use Rattle.gaz_views.specs.View.{View, holds}
 use Rattle.gaz_views.proofs.Emptiness.{get_none}
 use Rattle.gaz_views.proofs.Examples.{worked_examples_hold}
 use Rattle.gaz_records.specs.declared.key.Key.TheVariants as key
-use Rattle.gaz_hub.proofs.Steps.{pairs_same}
+use Rattle.gaz_steps.proofs.Steps.{pairs_same}
 use Rattle.gaz_views.proofs.Lawful.{lawful_empty}
 use Rattle.gaz_keeper.proofs.Pairs.{pairs_total}
 use Rattle.gaz_keeper.specs.Examples.{first_received, kept_safe}
 use Rattle.gaz_keeper.specs.Keeper.{IsLawful, empty_content, with_working}
 use Rattle.gaz_keeper.specs.Received.{pair_cmp, with_file}
-use Rattle.gaz_hub.specs.Hubs.{door_of}
-use Rattle.gaz_hub.specs.Sample.{sample_custodians}
-use Rattle.gaz_hub.proofs.Headline.{may_begin}
+use Rattle.gaz_steps.specs.Hubs.{door_of}
+use Rattle.gaz_steps.specs.Sample.{sample_custodians}
+use Rattle.gaz_steps.proofs.Headline.{may_begin}
 use Rattle.gaz_stored.specs.Filling.{AreVolumes, RestsBare}
 use Rattle.gaz_stored.proofs.laws.worked_filling.Goals as goal
 

@@ -1,7 +1,7 @@
 -- What comes of peers, on worked examples.
 use Rattle.std.proofs.Common.{◌≤◌, ℕ, List, length, length-append, arith, refl, subst, sym, true≢false}
 use Rattle.gaz_keeper.specs.Keeper.{Seen}
-use Rattle.gaz_hub.specs.Step.{Command, Response}
+use Rattle.gaz_steps.specs.Step.{Command, Response}
 use Rattle.gaz_hub.specs.declared.hub.Hub.{Hub}
 use Rattle.gaz_stored.specs.Meetings.{Meeting}
 use Rattle.gaz_stored.specs.Serving.{InTurn, Next, Nobody, Rested, Talked, TalksOrRests}

@@ -1,6 +1,6 @@
 -- Each question is answered by the call that answers it alone.
-use Rattle.gaz_hub.specs.Hubs.{or_not_received, told, told_all}
-use Rattle.gaz_hub.specs.declared.question.Question.TheVariants.{Extract, ListClosed}
+use Rattle.gaz_steps.specs.Hubs.{or_not_received, told, told_all}
+use Rattle.gaz_steps.specs.declared.question.Question.TheVariants.{Extract, ListClosed}
 use Rattle.gaz_hub.proofs.Forgetting.{forgets_settling, forgets_told, forgets_told_all}
 use Rattle.gaz_hub.proofs.hub.Hub.ask.Goals as goal
 

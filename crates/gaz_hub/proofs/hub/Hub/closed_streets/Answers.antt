@@ -3,9 +3,9 @@ use Rattle.std.proofs.Common.{rules, refl}
 use Rattle.std.specs.Global.{Vec}
 use Rattle.gaz_extract.specs.declared.closed.Closed.{Closed}
 use Rattle.gaz_extract.proofs.Readings.{looks_as}
-use Rattle.gaz_hub.specs.Hubs.{door_of, told_all}
+use Rattle.gaz_steps.specs.Hubs.{door_of, told_all}
 use Rattle.gaz_hub.specs.Seen.{kept_seen}
-use Rattle.gaz_hub.specs.declared.question.Question.TheVariants.{ListClosed}
+use Rattle.gaz_steps.specs.declared.question.Question.TheVariants.{ListClosed}
 use Rattle.gaz_hub.proofs.Replying.{answered_door, answered_steps}
 use Rattle.gaz_hub.proofs.Memory.{looks_called}
 use Rattle.gaz_hub.proofs.hub.Hub.closed_streets.Goals as goal

@@ -5,9 +5,9 @@ use Rattle.std.specs.Option.{option_map}
 use Rattle.std.specs.Prelude.{ℕ}
 use Rattle.gaz_extract.specs.Extracts.{extract}
 use Rattle.gaz_extract.proofs.Readings.{looks_as}
-use Rattle.gaz_hub.specs.Hubs.{door_of, told}
+use Rattle.gaz_steps.specs.Hubs.{door_of, told}
 use Rattle.gaz_hub.specs.Seen.{hub_seen, kept_seen}
-use Rattle.gaz_hub.specs.declared.question.Question.TheVariants.{Extract}
+use Rattle.gaz_steps.specs.declared.question.Question.TheVariants.{Extract}
 use Rattle.gaz_hub.proofs.Declining.{declines_question}
 use Rattle.gaz_hub.proofs.Replying.{answered_door, answered_steps}
 use Rattle.gaz_hub.proofs.Memory.{looks_called}

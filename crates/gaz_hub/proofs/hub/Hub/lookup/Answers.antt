@@ -1,9 +1,9 @@
 -- The look-up is read off the settled board.
 use Rattle.std.proofs.Common.{rules, refl}
 use Rattle.gaz_extract.proofs.Readings.{looks_as}
-use Rattle.gaz_hub.specs.Hubs.{door_of}
+use Rattle.gaz_steps.specs.Hubs.{door_of}
 use Rattle.gaz_hub.specs.Seen.{kept_seen}
-use Rattle.gaz_hub.specs.declared.question.Question.TheVariants.{LookUp}
+use Rattle.gaz_steps.specs.declared.question.Question.TheVariants.{LookUp}
 use Rattle.gaz_hub.proofs.AskingHolder.{holder_steps}
 use Rattle.gaz_hub.proofs.Memory.{looks_called}
 use Rattle.gaz_hub.proofs.Replying.{answered_door}

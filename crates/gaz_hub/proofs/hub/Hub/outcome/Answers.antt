@@ -3,14 +3,14 @@ use Rattle.std.proofs.Common.{◌≡◌, rules, refl, ap, ◌∙◌, ℕ}
 use Rattle.gaz_register.specs.Registers.{knows}
 use Rattle.gaz_extract.proofs.Readings.{looks_as}
 use Rattle.gaz_waiters.specs.Remembered.{known_in}
-use Rattle.gaz_hub.specs.Hubs.{door_of, state_of}
+use Rattle.gaz_steps.specs.Hubs.{door_of, state_of}
 use Rattle.gaz_hub.specs.Seen.{hub_seen, kept_seen}
 use Rattle.gaz_hub.specs.Asked.{IsToldNow}
-use Rattle.gaz_hub.specs.Standing.{NothingReady}
+use Rattle.gaz_steps.specs.Standing.{NothingReady}
 use Rattle.gaz_hub.specs.Waiting.{IsSo}
-use Rattle.gaz_hub.specs.Step.{told_of}
-use Rattle.gaz_hub.specs.declared.question.Question.TheVariants.{Ask}
-use Rattle.gaz_hub.proofs.AnswerSteps.{known_at}
+use Rattle.gaz_steps.specs.Step.{told_of}
+use Rattle.gaz_steps.specs.declared.question.Question.TheVariants.{Ask}
+use Rattle.gaz_steps.proofs.Known.{known_at}
 use Rattle.gaz_hub.proofs.Declining.{declines_question}
 use Rattle.gaz_hub.proofs.Replying.{answered_door, answered_steps}
 use Rattle.gaz_hub.proofs.Memory.{looks_knowing}

@@ -1,12 +1,12 @@
 -- All is settled, and nothing is read.
 use Rattle.std.proofs.Common.{◌≡◌, ap, refl, rules}
 use Rattle.gaz_keeper.specs.Keeper.{Content}
-use Rattle.gaz_hub.specs.Hubs.{door_of, state_of}
+use Rattle.gaz_steps.specs.Hubs.{door_of, state_of}
 use Rattle.gaz_hub.specs.Seen.{hub_seen, kept_seen}
-use Rattle.gaz_hub.specs.Standing.{NothingReady}
-use Rattle.gaz_hub.specs.Step.{answer_to}
-use Rattle.gaz_hub.specs.declared.question.Question.TheVariants.{Settle}
-use Rattle.gaz_hub.proofs.Looks.{looks_still}
+use Rattle.gaz_steps.specs.Standing.{NothingReady}
+use Rattle.gaz_steps.specs.Step.{answer_to}
+use Rattle.gaz_steps.specs.declared.question.Question.TheVariants.{Settle}
+use Rattle.gaz_steps.proofs.Looks.{looks_still}
 use Rattle.gaz_hub.proofs.Memory.{looks_called}
 use Rattle.gaz_hub.proofs.Replying.{door_read, steps_read}
 use Rattle.gaz_hub.proofs.Telling.{tells_settled}

@@ -1,7 +1,7 @@
 -- What was there is read off the settled board.
 use Rattle.std.proofs.Common.{rules}
 use Rattle.gaz_hub.specs.Asked.{AnyIsOfBefore, IsAgain}
-use Rattle.gaz_hub.specs.Hubs.{door_of}
+use Rattle.gaz_steps.specs.Hubs.{door_of}
 use Rattle.gaz_hub.specs.Seen.{kept_seen}
 use Rattle.gaz_hub.proofs.Memory.{looks_knowing}
 use Rattle.gaz_hub.proofs.Telling.{calls_tell, tells_settled}

@@ -3,7 +3,7 @@ use Rattle.std.proofs.Common.{rules}
 use Rattle.gaz_extract.proofs.Readings.{looks_as}
 use Rattle.gaz_waiters.specs.Remembered.{known_in}
 use Rattle.gaz_hub.specs.Asked.{IsOutcome}
-use Rattle.gaz_hub.specs.Hubs.{door_of}
+use Rattle.gaz_steps.specs.Hubs.{door_of}
 use Rattle.gaz_hub.specs.Seen.{kept_seen}
 use Rattle.gaz_hub.specs.Waiting.{IsSo}
 use Rattle.gaz_hub.proofs.Memory.{looks_knowing}

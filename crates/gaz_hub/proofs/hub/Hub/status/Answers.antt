@@ -3,13 +3,13 @@ use Rattle.std.proofs.Common.{◌≡◌, rules, refl, ap, ◌∙◌, cond, not, 
 use Rattle.gaz_register.specs.Registers.{knows}
 use Rattle.gaz_extract.proofs.Readings.{looks_as}
 use Rattle.gaz_waiters.specs.Remembered.{known_in}
-use Rattle.gaz_hub.specs.Hubs.{door_of}
-use Rattle.gaz_hub.specs.Outcomes.{status}
+use Rattle.gaz_steps.specs.Hubs.{door_of}
+use Rattle.gaz_steps.specs.Outcomes.{status}
 use Rattle.gaz_hub.specs.Seen.{hub_seen, kept_seen}
-use Rattle.gaz_hub.specs.Standing.{NothingReady}
+use Rattle.gaz_steps.specs.Standing.{NothingReady}
 use Rattle.gaz_hub.specs.Waiting.{IsSo}
-use Rattle.gaz_hub.specs.declared.question.Question.TheVariants.{Stand}
-use Rattle.gaz_hub.specs.declared.refusal.DoorRefusal.TheVariants as at_door
+use Rattle.gaz_steps.specs.declared.question.Question.TheVariants.{Stand}
+use Rattle.gaz_steps.specs.declared.refusal.DoorRefusal.TheVariants as at_door
 use Rattle.gaz_hub.proofs.Declining.{declines_question}
 use Rattle.gaz_hub.proofs.Replying.{answered_door, answered_steps}
 use Rattle.gaz_hub.proofs.Memory.{looks_knowing}

@@ -1,12 +1,12 @@
 -- The door, and then what it lets in.
 use Rattle.std.proofs.Common.{ap, cond, refl, sym, ◌∙◌}
 use Rattle.std.specs.Prelude.{Some, None}
-use Rattle.gaz_hub.specs.Hubs.{door_of, is_foreign}
+use Rattle.gaz_steps.specs.Hubs.{door_of, is_foreign}
 use Rattle.gaz_hub.specs.Seen.{hub_seen}
-use Rattle.gaz_hub.specs.Step.{blocks, or_foreign}
-use Rattle.gaz_hub.specs.declared.refusal.DoorRefusal.TheVariants as at_door
+use Rattle.gaz_steps.specs.Step.{blocks, or_foreign}
+use Rattle.gaz_steps.specs.declared.refusal.DoorRefusal.TheVariants as at_door
 use Rattle.gaz_hub.proofs.Declining.{declines, declines_file}
-use Rattle.gaz_hub.proofs.Leading.{follows_itself}
+use Rattle.gaz_steps.proofs.Leading.{follows_itself}
 use Rattle.gaz_hub.proofs.hub.Hub.submit.Goals as goal
 
 pub returns-in-Err-clause-steps : goal.returns-in-Err-clause-steps

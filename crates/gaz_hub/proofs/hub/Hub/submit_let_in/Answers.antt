@@ -1,7 +1,7 @@
 -- A new file is taken in after what was there is settled.
 use Rattle.std.proofs.Common.{subst}
 use Rattle.gaz_hub.specs.Asked.{TakesIn}
-use Rattle.gaz_hub.specs.Hubs.{door_of}
+use Rattle.gaz_steps.specs.Hubs.{door_of}
 use Rattle.gaz_hub.specs.Seen.{hub_seen}
 use Rattle.gaz_register.specs.Registers.{RegisterValue}
 use Rattle.gaz_hub.proofs.AnswerSteps.{answered_before, taken_in, unsettled_before}

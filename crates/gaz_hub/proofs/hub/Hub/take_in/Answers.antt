@@ -1,8 +1,8 @@
 -- The file is received, and all is settled.
-use Rattle.gaz_hub.specs.Hubs.{door_of}
+use Rattle.gaz_steps.specs.Hubs.{door_of}
 use Rattle.gaz_hub.specs.Seen.{hub_seen, kept_seen}
 use Rattle.gaz_hub.proofs.AnswerSteps.{taken_new, taken_not, taken_unsettled}
-use Rattle.gaz_hub.proofs.Looks.{left_not_open}
+use Rattle.gaz_steps.proofs.Looks.{left_not_open}
 use Rattle.gaz_hub.proofs.hub.Hub.take_in.Goals as goal
 
 pub returns-in-Ok-clause-takes_in : goal.returns-in-Ok-clause-takes_in

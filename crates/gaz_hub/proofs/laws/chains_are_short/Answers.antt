@@ -1,5 +1,0 @@
-use Rattle.gaz_hub.proofs.ChainGrowth.{chains_are_short_hold}
-use Rattle.gaz_hub.proofs.laws.chains_are_short.Goals as goal
-
-pub returns : goal.returns
-returns c = chains_are_short_hold

@@ -1,5 +1,0 @@
-use Rattle.gaz_hub.proofs.ChainGrowth.{chains_grow_holds}
-use Rattle.gaz_hub.proofs.laws.chains_grow.Goals as goal
-
-pub returns : goal.returns
-returns c = chains_grow_holds

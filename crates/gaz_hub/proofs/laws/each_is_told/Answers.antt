@@ -1,5 +1,0 @@
-use Rattle.gaz_hub.proofs.ToldNow.{each_is_told_holds}
-use Rattle.gaz_hub.proofs.laws.each_is_told.Goals as goal
-
-pub returns : goal.returns
-returns c = each_is_told_holds

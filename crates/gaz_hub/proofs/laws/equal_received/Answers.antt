@@ -1,5 +1,0 @@
-use Rattle.gaz_hub.proofs.Runs.{equal_received_holds}
-use Rattle.gaz_hub.proofs.laws.equal_received.Goals as goal
-
-pub returns : goal.returns
-returns c = equal_received_holds

@@ -1,5 +1,0 @@
-use Rattle.gaz_hub.proofs.Growing.{every_grown_run_holds}
-use Rattle.gaz_hub.proofs.laws.every_grown_run.Goals as goal
-
-pub returns : goal.returns
-returns c = every_grown_run_holds

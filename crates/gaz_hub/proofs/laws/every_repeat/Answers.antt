@@ -1,5 +1,0 @@
-use Rattle.gaz_hub.proofs.Runs.{every_repeat_holds}
-use Rattle.gaz_hub.proofs.laws.every_repeat.Goals as goal
-
-pub returns : goal.returns
-returns c = every_repeat_holds

@@ -1,5 +1,0 @@
-use Rattle.gaz_hub.proofs.ReadingLaws.{extracts_stay_hold}
-use Rattle.gaz_hub.proofs.laws.extracts_stay.Goals as goal
-
-pub returns : goal.returns
-returns c = extracts_stay_hold

@@ -1,5 +1,0 @@
-use Rattle.gaz_hub.proofs.ChainGrowth.{finds_holders_holds}
-use Rattle.gaz_hub.proofs.laws.finds_holders.Goals as goal
-
-pub returns : goal.returns
-returns c = finds_holders_holds

@@ -1,5 +1,0 @@
-use Rattle.gaz_hub.proofs.Growing.{growth_keeps_holds}
-use Rattle.gaz_hub.proofs.laws.growth_keeps.Goals as goal
-
-pub returns : goal.returns
-returns c = growth_keeps_holds

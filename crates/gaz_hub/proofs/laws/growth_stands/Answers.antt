@@ -1,5 +1,0 @@
-use Rattle.gaz_hub.proofs.Growing.{growth_stands_holds}
-use Rattle.gaz_hub.proofs.laws.growth_stands.Goals as goal
-
-pub returns : goal.returns
-returns g c = growth_stands_holds g.K.Shelf.seen

@@ -1,5 +1,0 @@
-use Rattle.gaz_hub.proofs.Runs.{judgements_stay_holds}
-use Rattle.gaz_hub.proofs.laws.judgements_stay.Goals as goal
-
-pub returns : goal.returns
-returns c = judgements_stay_holds

@@ -1,5 +1,0 @@
-use Rattle.gaz_hub.proofs.Orders.{more_files_hold}
-use Rattle.gaz_hub.proofs.laws.more_files.Goals as goal
-
-pub returns : goal.returns
-returns c = more_files_hold

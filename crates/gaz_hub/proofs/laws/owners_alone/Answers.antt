@@ -1,5 +1,0 @@
-use Rattle.gaz_hub.proofs.Owners.{owners_alone_hold}
-use Rattle.gaz_hub.proofs.laws.owners_alone.Goals as goal
-
-pub returns : goal.returns
-returns c = owners_alone_hold

@@ -1,5 +1,0 @@
-use Rattle.gaz_hub.proofs.Growing.{periods_are_one_run_holds}
-use Rattle.gaz_hub.proofs.laws.periods_are_one_run.Goals as goal
-
-pub returns : goal.returns
-returns c = periods_are_one_run_holds

@@ -1,5 +1,0 @@
-use Rattle.gaz_hub.proofs.WorkedChains.{worked_chains_hold}
-use Rattle.gaz_hub.proofs.worked.worked_chains.Goals as goal
-
-pub returns : goal.returns
-returns c = worked_chains_hold

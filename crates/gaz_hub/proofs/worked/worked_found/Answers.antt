@@ -1,5 +1,0 @@
-use Rattle.gaz_hub.proofs.WorkedFound.{worked_found_hold}
-use Rattle.gaz_hub.proofs.worked.worked_found.Goals as goal
-
-pub returns : goal.returns
-returns g c = worked_found_hold g.K.Shelf.seen

@@ -1,5 +1,0 @@
-use Rattle.gaz_hub.proofs.WorkedGrowth.{worked_growth_hold}
-use Rattle.gaz_hub.proofs.worked.worked_growth.Goals as goal
-
-pub returns : goal.returns
-returns c = worked_growth_hold

@@ -1,5 +1,0 @@
-use Rattle.gaz_hub.proofs.WorkedOwners.{worked_owners_hold}
-use Rattle.gaz_hub.proofs.worked.worked_owners.Goals as goal
-
-pub returns : goal.returns
-returns c = worked_owners_hold

@@ -1,5 +1,0 @@
-use Rattle.gaz_hub.proofs.WorkedRuns.{worked_runs_hold}
-use Rattle.gaz_hub.proofs.worked.worked_runs.Goals as goal
-
-pub returns : goal.returns
-returns c = worked_runs_hold

@@ -1,5 +1,0 @@
-use Rattle.gaz_hub.proofs.WorkedSteps.{worked_steps_hold}
-use Rattle.gaz_hub.proofs.worked.worked_steps.Goals as goal
-
-pub returns : goal.returns
-returns c = worked_steps_hold
