@@ -1,5 +1,5 @@
 -- The judgement that is added is the one that the board gets.
-use Rattle.std.proofs.Common.{◌≡◌, ◌+◌, ◌-◌, ℕ, true, false, cond, eqb, eqb-true, [], ◌∷◌, ◌++◌, refl, sym, ap, subst}
+use Rattle.std.proofs.Common.{◌≡◌, ℕ, true, false, cond, eqb, eqb-true, [], ◌∷◌, ◌++◌, refl, sym, ap, subst}
 use Rattle.std.proofs.Math.Path.{fun_ext}
 use Rattle.std.specs.Prelude.{Some}
 use Rattle.std.specs.Option.{option_map_or}
@@ -9,8 +9,6 @@ use Rattle.gaz_keeper.specs.Board.{Board, adds}
 use Rattle.gaz_keeper.specs.Received.{Received}
 use Rattle.gaz_rules.specs.Bases.{judged_on}
 use Rattle.gaz_steps.specs.Standing.{judge_one, next_reading, with_next}
-
--- ---- one judgement
 
 -- it is the judgement that the board gets
 pub added_is : (G : Owners) (F : Received) (B : Board) (c : ℕ) (r : Reading) → next_reading F B c ≡ Some r → adds B c (judged_on (G c) B c r) ≡ judge_one G F B c

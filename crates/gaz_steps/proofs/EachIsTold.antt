@@ -1,5 +1,5 @@
 -- Each received file has an outcome, and nothing is told of nothing alone.
-use Rattle.std.proofs.Common.{◌≡◌, ◌≤◌, ℕ, true, false, cond, not, refl, sym, ap, ◌∙◌, subst, arith, leb-true}
+use Rattle.std.proofs.Common.{◌≡◌, ◌≤◌, ℕ, true, false, true≢false, cond, not, refl, sym, ap, ◌∙◌, subst, arith, leb-true}
 use Rattle.std.proofs.lemmas.Bool.{and_parts}
 use Rattle.std.specs.Prelude.{nat_le, Bool, IsSome, Option, Some, None, is_some}
 use Rattle.std.specs.Option.{option_and_then, option_map, option_map_or}

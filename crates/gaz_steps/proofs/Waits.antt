@@ -12,8 +12,6 @@ use Rattle.gaz_steps.specs.Outcomes.{first_unreached, wants, wants_as}
 use Rattle.gaz_steps.specs.Standing.{NothingReady}
 use Rattle.gaz_steps.proofs.Looks.{IsFile, ready_as, wants_for}
 
--- ---- outcomes
-
 pub was_none : {X Y : Type 0} (f : X → Y) (o : Option X) → None ≡ option_map f o → o ≡ None
 was_none f None e = refl
 was_none f (Some x) e = cc
