@@ -26,7 +26,8 @@ use Rattle.gaz_rules.specs.Judging.{Fault, end_faults, fault_at, judge, judged_b
 use Rattle.gaz_rules.specs.Knowing.{IsRight}
 use Rattle.gaz_rules.specs.Phases.{Ends, Finds, IsFirst, Works, conclusion, faults_in}
 use Rattle.gaz_views.specs.Words.{first_of}
-use Rattle.gaz_rules.specs.Rules.{effect, first_broken}
+use Rattle.gaz_rules.specs.Rules.{effect}
+use Rattle.gaz_changefile.specs.Rules.{first_broken}
 use Rattle.gaz_rules.specs.declared.judging.Fault as found
 use Rattle.gaz_rules.specs.declared.known.Known.{Known}
 use Rattle.gaz_rules.proofs.Progress.{keeps_itself}

@@ -10,7 +10,7 @@ use Rattle.gaz_records.specs.declared.key.Key.{Key}
 use Rattle.gaz_records.specs.declared.key.Key.TheVariants as key
 use Rattle.gaz_views.specs.Examples.{blpu, council_tax, lpi, name, spring, street}
 use Rattle.gaz_views.specs.View.{View, empty_view, with_item}
-use Rattle.gaz_rules.specs.Rules.{first_broken}
+use Rattle.gaz_changefile.specs.Rules.{first_broken}
 use Rattle.gaz_rules.specs.EndRules.{end_rules}
 
 -- the view after these items came

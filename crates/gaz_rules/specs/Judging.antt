@@ -11,7 +11,8 @@ use Rattle.gaz_keeper.specs.Board.{Judgement}
 use Rattle.gaz_views.specs.declared.verdict.Verdict.TheVariants.{Applied, Rejected}
 use Rattle.gaz_register.specs.Registers.{Blocks}
 use Rattle.gaz_rules.specs.EndRules.{end_rules}
-use Rattle.gaz_rules.specs.Rules.{effect, record_rules, first_broken}
+use Rattle.gaz_rules.specs.Rules.{effect, record_rules}
+use Rattle.gaz_changefile.specs.Rules.{first_broken}
 
 -- a file with a fault has no basis
 abbrev pub bases_of : Reading → List Basis

@@ -6,7 +6,7 @@ use Rattle.gaz_records.specs.declared.key.Key.{Key}
 use Rattle.gaz_views.specs.View.{View}
 use Rattle.gaz_rules.specs.EndRules.{end_rules}
 use Rattle.gaz_rules.specs.Rings.{Knows}
-use Rattle.gaz_rules.specs.Rules.{first_broken}
+use Rattle.gaz_changefile.specs.Rules.{first_broken}
 use Rattle.gaz_rules.specs.Streets.{street_faults}
 use Rattle.gaz_rules.specs.declared.known.Known.{Known}
 use Rattle.gaz_rules.specs.declared.last_street.LastStreet.{LastStreet}

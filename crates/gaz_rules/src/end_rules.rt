@@ -6,7 +6,7 @@ ghost use Rattle.gaz_rules.specs.Breaches.{answers, key_faults, numbered};
 ghost use Rattle.gaz_rules.specs.EndRules.{end_rules};
 ghost use Rattle.gaz_rules.specs.Knowing.{IsRight, has_passed};
 ghost use Rattle.gaz_rules.specs.Rings.{Knows};
-ghost use Rattle.gaz_rules.specs.Rules.{first_broken};
+ghost use Rattle.gaz_changefile.specs.Rules.{first_broken};
 ghost use Rattle.gaz_rules.specs.Working.{IsJudging, ReadsView, ReadsViews};
 
 use crate::blpu_faults::{blpu_faults, blpu_in, gone_faults};

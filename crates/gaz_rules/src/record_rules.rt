@@ -4,7 +4,8 @@ ghost use Rattle.gaz_records.specs.Items.{is_entry};
 ghost use Rattle.gaz_records.specs.Keys.{key_of};
 ghost use Rattle.gaz_register.specs.Registers.{Blocks, blocks_of};
 ghost use Rattle.gaz_views.specs.View.{View};
-ghost use Rattle.gaz_rules.specs.Rules.{delete_breach, first_broken, insert_breach, is_moved};
+ghost use Rattle.gaz_rules.specs.Rules.{delete_breach, insert_breach, is_moved};
+ghost use Rattle.gaz_changefile.specs.Rules.{first_broken};
 ghost use Rattle.gaz_rules.specs.Rules.{is_outside, record_rules, stays, update_breach};
 ghost use Rattle.gaz_rules.specs.Working.{IsJudging, ReadsView, ReadsViews};
 

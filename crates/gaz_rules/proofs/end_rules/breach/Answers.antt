@@ -6,7 +6,7 @@ use Rattle.gaz_views.specs.View.{View}
 use Rattle.gaz_rules.specs.Bases.{basis_views}
 use Rattle.gaz_rules.specs.EndRules.{end_rules, same_key}
 use Rattle.gaz_rules.specs.Knowing.{HavePassed, has_passed}
-use Rattle.gaz_rules.specs.Rules.{first_broken}
+use Rattle.gaz_changefile.specs.Rules.{first_broken}
 use Rattle.gaz_rules.specs.declared.passed.Passed.{Passed}
 use Rattle.gaz_rules.proofs.Booleans.{by_test}
 use Rattle.gaz_rules.proofs.Keys.{key_itself, key_tied}

@@ -5,7 +5,7 @@ use Rattle.gaz_keeper.specs.Keeper.{view_of}
 use Rattle.gaz_rules.specs.Bases.{are_reached, basis_views}
 use Rattle.gaz_rules.specs.EndRules.{end_rules}
 use Rattle.gaz_rules.specs.Knowing.{IsRight}
-use Rattle.gaz_rules.specs.Rules.{first_broken}
+use Rattle.gaz_changefile.specs.Rules.{first_broken}
 use Rattle.gaz_keeper.proofs.Keeping.{view_open}
 use Rattle.gaz_rules.proofs.Progress.{reads_both}
 use Rattle.gaz_rules.proofs.end_rules.breach_of.Goals as goal

@@ -1,7 +1,7 @@
 -- What is left has the first broken rule of all.
 use Rattle.std.proofs.Common.{◌≡◌, drop}
 use Rattle.gaz_rules.specs.Breaches.{answers}
-use Rattle.gaz_rules.specs.Rules.{first_broken}
+use Rattle.gaz_changefile.specs.Rules.{first_broken}
 use Rattle.gaz_rules.proofs.end_rules.first_broken.Given as goal
 
 abbrev pub invariant-loop-asked : goal.invariant-loop-asked
