@@ -10,7 +10,7 @@ use Rattle.gaz_keeper.specs.Keeper.{Content, Reads, Seen}
 use Rattle.gaz_keeper.specs.Received.{Received}
 use Rattle.gaz_keeper.specs.declared.fault.ShelfFault.{ShelfFault}
 use Rattle.gaz_keeper.specs.declared.fault.ShelfFault.TheVariants.{Store}
-use Rattle.gaz_rules.specs.Bases.{are_reached}
+use Rattle.gaz_end_rules.specs.Bases.{are_reached}
 use Rattle.gaz_extract.specs.Readings.{Looks}
 use Rattle.gaz_extract.proofs.Readings.{if_ok}
 use Rattle.gaz_hub.specs.Asked.{IsHeld, IsOutcome}

@@ -25,12 +25,12 @@ use Rattle.gaz_views.specs.declared.custody.Custody.{Custody}
 use Rattle.gaz_views.specs.declared.custody.Custody.TheVariants.{Adopted, Released}
 use Rattle.gaz_rules.specs.Rules.{effect, effect_of, entry_effect, holds_number, is_outside, record_rules, stays, takes_what_stays}
 use Rattle.gaz_changefile.specs.Rules.{first_broken}
-use Rattle.gaz_rules.specs.EndRules.{end_rules, same_key}
+use Rattle.gaz_end_rules.specs.EndRules.{end_rules, same_key}
 use Rattle.gaz_rules.specs.Judging.{Fault, end_faults, fault_at, judge, judged_by_faults, record_faults, with_views}
 use Rattle.gaz_rules.specs.Sound.{HoldsOwn, IsSound}
-use Rattle.gaz_rules.proofs.Keys.{key_itself, key_tied}
+use Rattle.gaz_end_rules.proofs.Keys.{key_itself, key_tied}
 use Rattle.gaz_rules.proofs.Soundness.{AllFalse, IsForeign, Keeps, keeps_all, sound_after}
-use Rattle.gaz_rules.proofs.Booleans.{by_test, false_by, neither, no_false, not_false, or_true}
+use Rattle.gaz_end_rules.proofs.Booleans.{by_test, false_by, neither, no_false, not_false, or_true}
 
 -- ---- from no faults
 

@@ -19,18 +19,18 @@ use Rattle.gaz_views.specs.declared.verdict.Verdict.{Verdict}
 use Rattle.gaz_views.specs.declared.verdict.Verdict.TheVariants.{Applied, Rejected}
 use Rattle.gaz_keeper.proofs.Keeping.{keeps_then, still_open}
 use Rattle.gaz_views.proofs.Outcomes.{on_err, on_ok}
-use Rattle.gaz_rules.specs.Bases.{are_reached, basis_views, judged_on}
-use Rattle.gaz_rules.specs.EndRules.{end_rules}
+use Rattle.gaz_end_rules.specs.Bases.{are_reached, basis_views}
+use Rattle.gaz_end_rules.specs.EndRules.{end_rules}
 use Rattle.gaz_rules.specs.Judges.{IsReady, Judges}
-use Rattle.gaz_rules.specs.Judging.{Fault, end_faults, fault_at, judge, judged_by_faults, record_faults}
-use Rattle.gaz_rules.specs.Knowing.{IsRight}
+use Rattle.gaz_rules.specs.Judging.{Fault, end_faults, fault_at, judge, judged_by_faults, judged_on, record_faults}
+use Rattle.gaz_end_rules.specs.Knowing.{IsRight}
 use Rattle.gaz_rules.specs.Phases.{Ends, Finds, IsFirst, Works, conclusion, faults_in}
 use Rattle.gaz_views.specs.Words.{first_of}
 use Rattle.gaz_rules.specs.Rules.{effect}
 use Rattle.gaz_changefile.specs.Rules.{first_broken}
 use Rattle.gaz_rules.specs.declared.judging.Fault as found
-use Rattle.gaz_rules.specs.declared.known.Known.{Known}
-use Rattle.gaz_rules.proofs.Progress.{keeps_itself}
+use Rattle.gaz_end_rules.specs.declared.known.Known.{Known}
+use Rattle.gaz_end_rules.proofs.Progress.{keeps_itself}
 
 -- ---- the end rules, key by key
 
