@@ -25,6 +25,10 @@ abbrev pub HavePassed : View → List (ℕ × View) → Passed → Type 0
 HavePassed v others p =
     (k : Key) → has_passed p k ≡ true → first_broken (end_rules v others k) ≡ None
 
+-- what was walked and what was last answered are right of a view and the basis views
+abbrev pub Remembers : View → List (ℕ × View) → Known → Type 0
+Remembers v others k = Knows v k.walked × Recalls v others k.street
+
 -- what was walked, what was last answered and what passed are right of a view and the basis views
 abbrev pub IsRight : View → List (ℕ × View) → Known → Type 0
 IsRight v others k = Knows v k.walked × Recalls v others k.street × HavePassed v others k.passed

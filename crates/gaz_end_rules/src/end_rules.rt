@@ -4,7 +4,7 @@ ghost use Rattle.std.specs.FinMap as map;
 ghost use Rattle.gaz_records.specs.Keys.{key_of};
 ghost use Rattle.gaz_end_rules.specs.Breaches.{answers, key_faults, numbered};
 ghost use Rattle.gaz_end_rules.specs.EndRules.{end_rules};
-ghost use Rattle.gaz_end_rules.specs.Knowing.{IsRight, has_passed};
+ghost use Rattle.gaz_end_rules.specs.Knowing.{IsRight, Remembers, has_passed};
 ghost use Rattle.gaz_end_rules.specs.Rings.{Knows};
 ghost use Rattle.gaz_changefile.specs.Rules.{first_broken};
 ghost use Rattle.gaz_end_rules.specs.Working.{IsJudging, ReadsView, ReadsViews};
@@ -109,10 +109,11 @@ fn breach_at<K: Shelf>(
     stored: &Option<SharedItem>,
 ) -> Result<Option<u8>, ShelfFault>
     requires { IsJudging K.seen keeper.old code }
-    ensures { ReadsViews K.seen keeper.old keeper.new result bases.now (λ view others r.
-        stored.now ≡ map.get view.items key.now → IsRight view others known.old
-        → IsRight view others known.new
+    ensures broken { ReadsViews K.seen keeper.old keeper.new result bases.now (λ view others r.
+        stored.now ≡ map.get view.items key.now → Remembers view others known.old
+        → Remembers view others known.new
         × (r ≡ first_broken (end_rules view others key.now))) }
+    ensures passed { known.new.passed ≡ known.old.passed }
 {
     let names = name_faults(keeper, code, bases, &mut known.street, key, stored)?;
     let keys = key_faults(keeper, code, &mut known.walked, key, stored)?;
@@ -128,10 +129,11 @@ fn breach_of<K: Shelf>(
     key: &Key,
 ) -> Result<Option<u8>, ShelfFault>
     requires { IsJudging K.seen keeper.old code }
-    ensures { ReadsViews K.seen keeper.old keeper.new result bases.now (λ view others r.
-        IsRight view others known.old
-        → IsRight view others known.new
+    ensures broken { ReadsViews K.seen keeper.old keeper.new result bases.now (λ view others r.
+        Remembers view others known.old
+        → Remembers view others known.new
         × (r ≡ first_broken (end_rules view others key.now))) }
+    ensures passed { known.new.passed ≡ known.old.passed }
 {
     let stored = keeper.current(code, key)?;
     Ok(breach_at(keeper, code, bases, known, key, &stored)?)
@@ -139,7 +141,8 @@ fn breach_of<K: Shelf>(
 
 /// The least end rule that the key of an item breaks, 30 to 39 (our profile), in the view that is
 /// judged, where what is known is right of it and of the views that the bases name. A key that broke
-/// none isn't asked again. After a fault, `Memory` or `Store`, nothing is told.
+/// none isn't asked again. What is known stays right as long as no rule is broken; after a fault,
+/// `Memory` or `Store`, nothing is said of it.
 pub fn breach<K: Shelf>(
     keeper: &mut K,
     code: Code,
@@ -150,18 +153,15 @@ pub fn breach<K: Shelf>(
     requires { IsJudging K.seen keeper.old code }
     ensures broken { ReadsViews K.seen keeper.old keeper.new result bases.now (λ view others r.
         IsRight view others known.old
-        → IsRight view others known.new
+        → IfNone r (IsRight view others known.new)
         × (r ≡ first_broken (end_rules view others (key_of item.now)))) }
     ensures passed { IfOk result (λ r.
         IfNone r (has_passed known.new.passed (key_of item.now) ≡ true)) }
 {
     let key = key_of(item);
-    if known.passed.has(&key) {
+    let is_new = known.passed.add(&key)?;
+    if !is_new {
         return Ok(None);
     }
-    if let Some(rule) = breach_of(keeper, code, bases, known, &key)? {
-        return Ok(Some(rule));
-    }
-    known.passed.add(&key)?;
-    Ok(None)
+    Ok(breach_of(keeper, code, bases, known, &key)?)
 }

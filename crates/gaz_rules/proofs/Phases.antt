@@ -46,7 +46,7 @@ pub record AskedSoFar (old now : Seen) (c : ℕ) (bases : List Basis) (all left 
 
 -- what the end rules' code tells of a content
 abbrev pub Told : List Basis → Item → Option ℕ → Known → Known → Content → Type 0
-Told bases item r before after k = are_reached k.board bases ≡ true → IsRight k.working (basis_views k.board bases) before → IsRight k.working (basis_views k.board bases) after × (r ≡ first_broken (end_rules k.working (basis_views k.board bases) (key_of item)))
+Told bases item r before after k = are_reached k.board bases ≡ true → IsRight k.working (basis_views k.board bases) before → IfNone r (IsRight k.working (basis_views k.board bases) after) × (r ≡ first_broken (end_rules k.working (basis_views k.board bases) (key_of item)))
 
 -- nothing was asked so far
 pub asked_none : (s : Seen) (c : ℕ) (bases : List Basis) (all : List Change) (known : Known) → s.progress ≡ Open c → ((v : View) (out : List (ℕ × View)) → IsRight v out known) → AskedSoFar s s c bases all all known
@@ -65,7 +65,7 @@ pub asked_next : (old now next : Seen) (c : ℕ) (bases : List Basis) (all : Lis
     i < length all → ch ≡ get_or all i ch → AskedSoFar old now c bases all (drop i all) before →
     Reads {T = Option ℕ} now next (Ok r) (λ r. Told bases ch.item r before after now.content) →
     old.stands → next.unharmed → are_reached old.content.board bases ≡ true →
-    IsRight old.content.working (basis_views old.content.board bases) after
+    IfNone r (IsRight old.content.working (basis_views old.content.board bases) after)
     × (end_faults old.content.working (basis_views old.content.board bases) all ≡ cons_option (fault_at ch.place r) (end_faults old.content.working (basis_views old.content.board bases) (drop (i + 1) all)))
 asked_next old now next c bases all i ch before after r h e so_far asked stood fine ready =
     let mid = asked.keeps.harm fine in
