@@ -13,9 +13,9 @@ use Rattle.gaz_keeper.specs.Received.{Received}
 use Rattle.gaz_keeper.specs.declared.fault.ShelfFault.{ShelfFault}
 use Rattle.gaz_keeper.specs.declared.fault.ShelfFault.TheVariants.{Store}
 use Rattle.gaz_views.specs.declared.verdict.Verdict.{Verdict}
-use Rattle.gaz_rules.specs.Bases.{are_reached, judged_on}
+use Rattle.gaz_end_rules.specs.Bases.{are_reached}
 use Rattle.gaz_rules.specs.Judges.{IsReady, Judges}
-use Rattle.gaz_rules.specs.Judging.{bases_of, judge}
+use Rattle.gaz_rules.specs.Judging.{bases_of, judge, judged_on}
 use Rattle.gaz_extract.specs.Readings.{Looks}
 use Rattle.gaz_steps.specs.Hubs.{AreKnown, IsSoundFor, MayHave, door_of, state_of}
 use Rattle.gaz_hub.specs.Settling.{Advances, IsAll, IsNext, IsReadyAs, Tries}

@@ -10,7 +10,7 @@ use Rattle.gaz_changefile.specs.Reading.{Good, Bad, Reading, reading}
 use Rattle.gaz_changefile.specs.declared.change.Basis.{Basis}
 use Rattle.gaz_keeper.specs.Board.{Board, reached}
 use Rattle.gaz_keeper.specs.Received.{Received}
-use Rattle.gaz_rules.specs.Bases.{are_reached}
+use Rattle.gaz_end_rules.specs.Bases.{are_reached}
 use Rattle.gaz_rules.specs.Judging.{bases_of}
 use Rattle.gaz_steps.specs.Outcomes.{first_unreached, wants}
 use Rattle.gaz_hub.specs.Settling.{IsNext, IsReadAs, want_of}

@@ -6,7 +6,7 @@ use Rattle.std.specs.Option.{option_map, unwrap_or}
 use Rattle.std.specs.FinMap as finmap
 use Rattle.gaz_changefile.specs.Reading.{Reading}
 use Rattle.gaz_register.specs.Registers.{RegisterValue, blocks_of, knows}
-use Rattle.gaz_rules.specs.Bases.{judged_on}
+use Rattle.gaz_rules.specs.Judging.{judged_on}
 use Rattle.gaz_keeper.specs.Board.{Board, reached}
 use Rattle.gaz_keeper.specs.Keeper.{Content, Enters, IsNew, Seen, with_judgement, with_received}
 use Rattle.gaz_keeper.specs.Received.{Received}

@@ -9,9 +9,8 @@ use Rattle.gaz_views.specs.declared.verdict.Verdict.{Verdict}
 use Rattle.gaz_changefile.specs.Reading.{Bad, Reading}
 use Rattle.gaz_changefile.specs.declared.change.Basis.{Basis}
 use Rattle.gaz_register.specs.Registers.{Blocks}
-use Rattle.gaz_rules.specs.Bases.{judged_on}
 use Rattle.gaz_rules.specs.Judges.{IsReady, Judges}
-use Rattle.gaz_rules.specs.Judging.{judge}
+use Rattle.gaz_rules.specs.Judging.{judge, judged_on}
 use Rattle.gaz_keeper.specs.Board.{Judgement}
 use Rattle.gaz_extract.specs.Readings.{Looks}
 use Rattle.gaz_steps.specs.Hubs.{IsSoundFor, state_of}

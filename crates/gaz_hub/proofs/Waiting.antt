@@ -13,7 +13,7 @@ use Rattle.std.specs.Ordering.{eq_by_cmp, nat_cmp}
 use Rattle.gaz_changefile.specs.Reading.{Reading, reading}
 use Rattle.gaz_changefile.specs.declared.change.Basis.{Basis}
 use Rattle.gaz_register.specs.Registers.{CustodianValue, Owners, RegisterValue, knows}
-use Rattle.gaz_rules.specs.Bases.{are_reached}
+use Rattle.gaz_end_rules.specs.Bases.{are_reached}
 use Rattle.gaz_rules.specs.Judging.{bases_of}
 use Rattle.gaz_keeper.proofs.Pairs.{pairs_total}
 use Rattle.gaz_keeper.specs.Board.{Board, reached}

@@ -1,7 +1,7 @@
 -- What the rules on numbers that pass between custodians come to on worked examples.
 use Rattle.std.proofs.Common.{refl}
 use Rattle.gaz_rules.specs.CustodyExamples.{WorkedAdoptions, WorkedBreaches, WorkedHolders, WorkedPassing, WorkedReleases}
-use Rattle.gaz_rules.proofs.Worked.{views}
+use Rattle.gaz_end_rules.proofs.Worked.{views}
 
 on_releases : WorkedReleases
 on_releases = record {

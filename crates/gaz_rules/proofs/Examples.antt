@@ -1,7 +1,7 @@
 -- What the record rules come to on worked examples.
 use Rattle.std.proofs.Common.{refl}
 use Rattle.gaz_rules.specs.Examples.{WorkedKinds, WorkedRecordRules, WorkedTexts}
-use Rattle.gaz_rules.proofs.Worked.{views}
+use Rattle.gaz_end_rules.proofs.Worked.{views}
 
 pub on_record_rules : WorkedRecordRules
 on_record_rules = record {

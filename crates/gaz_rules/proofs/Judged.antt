@@ -1,8 +1,7 @@
 -- What an applied file did, and that judging keeps a view sound.
 use Rattle.std.proofs.Common.{◌≡◌, ◌≢◌, ℕ, Bool, true, false, cond, ◌||◌, List, [], ◌∷◌, ◌++◌, refl, sym, ap, ◌∙◌, subst, true≢false, is_some, eqb-true, eq-eqb}
 use Rattle.std.specs.Prelude.{Option, Some, None, fold}
-use Rattle.std.specs.Option.{option_map}
-use Rattle.std.specs.List.{cons_option, filter_map, find, list_any}
+use Rattle.std.specs.List.{cons_option, filter_map, list_any}
 use Rattle.std.specs.Cmp.{nat_cmp_total, unsigned_tied}
 use Rattle.std.specs.Ordering.{eq_by_cmp, nat_cmp}
 use Rattle.std.specs.FinMap as map
@@ -24,23 +23,21 @@ use Rattle.gaz_views.specs.Custody.{is_holding}
 use Rattle.gaz_views.specs.View.{View, custody_at, holds, was_used, with_adoption, with_item, with_release, without_key}
 use Rattle.gaz_views.specs.declared.custody.Custody.{Custody}
 use Rattle.gaz_views.specs.declared.custody.Custody.TheVariants.{Adopted, Released}
-use Rattle.gaz_rules.specs.Rules.{effect, effect_of, entry_effect, first_broken, holds_number, is_outside, record_rules, stays, takes_what_stays}
-use Rattle.gaz_rules.specs.EndRules.{end_rules, same_key}
+use Rattle.gaz_rules.specs.Rules.{effect, effect_of, entry_effect, holds_number, is_outside, record_rules, stays, takes_what_stays}
+use Rattle.gaz_changefile.specs.Rules.{first_broken}
+use Rattle.gaz_end_rules.specs.EndRules.{end_rules, same_key}
 use Rattle.gaz_rules.specs.Judging.{Fault, end_faults, fault_at, judge, judged_by_faults, record_faults, with_views}
 use Rattle.gaz_rules.specs.Sound.{HoldsOwn, IsSound}
-use Rattle.gaz_rules.proofs.Keys.{key_itself, key_tied}
+use Rattle.gaz_end_rules.proofs.Keys.{key_itself, key_tied}
 use Rattle.gaz_rules.proofs.Soundness.{AllFalse, IsForeign, Keeps, keeps_all, sound_after}
-use Rattle.gaz_rules.proofs.Booleans.{by_test, false_by, neither, no_false, not_false, or_true}
+use Rattle.gaz_end_rules.proofs.Booleans.{by_test, false_by, neither, no_false, not_false, or_true}
 
 -- ---- from no faults
 
 pub none_broken : (rules : List (ℕ × Bool)) → first_broken rules ≡ None → AllFalse rules
 none_broken [] e = tt
-none_broken (r ∷ rules) e =
-    elim (r.1) as (λ b. r.1 ≡ b → option_map (λ (q : ℕ × Bool). q.0) (cond b (Some r) (find (λ q. q.1) rules)) ≡ None → (r.1 ≡ false) × AllFalse rules) [
-      | true ↦ λ _ no. cc
-      | false ↦ λ is rest. (is, none_broken rules rest)
-    ] refl e
+none_broken ((n, true) ∷ rules) e = cc
+none_broken ((n, false) ∷ rules) e = (refl, none_broken rules e)
 
 pub both_empty : {X : Type 0} (xs ys : List X) → xs ++ ys ≡ [] → (xs ≡ []) × (ys ≡ [])
 both_empty [] ys e = (refl, e)

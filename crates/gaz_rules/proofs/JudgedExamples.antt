@@ -15,11 +15,11 @@ use Rattle.gaz_views.proofs.Examples.{get_one}
 use Rattle.gaz_views.specs.Examples.{blpu, name, one_street, street}
 use Rattle.gaz_rules.specs.Judging.{judge}
 use Rattle.gaz_rules.specs.JudgedExamples.{part, WorkedBoards, WorkedEndFaults, WorkedExamples, WorkedFiles, WorkedForeign, WorkedGivingUp, WorkedRecordFaults, WorkedReleasedBoards, WorkedTaking}
-use Rattle.gaz_rules.specs.EndExamples.{address, l1}
-use Rattle.gaz_rules.proofs.Worked.{taken-put, taken-under, views}
+use Rattle.gaz_end_rules.specs.EndExamples.{address, l1}
+use Rattle.gaz_end_rules.proofs.Worked.{taken-put, taken-under, views}
 use Rattle.gaz_rules.proofs.CustodyExamples.{on_passing}
 use Rattle.gaz_rules.proofs.Examples.{on_kinds, on_record_rules, on_texts}
-use Rattle.gaz_rules.proofs.EndExamples.{on_end_rules}
+use Rattle.gaz_end_rules.proofs.EndExamples.{on_end_rules}
 
 on_files : WorkedFiles
 unfolding judge

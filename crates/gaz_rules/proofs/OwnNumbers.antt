@@ -8,13 +8,13 @@ use Rattle.gaz_register.specs.Registers.{Blocks, IsRegister, Owners, RegisterVal
 use Rattle.gaz_views.specs.View.{View, empty_view}
 use Rattle.gaz_keeper.specs.Board.{Board, adds, last_view, reached}
 use Rattle.gaz_rules.specs.Rules.{effect}
-use Rattle.gaz_rules.specs.Judging.{bases_of, end_faults, judge, record_faults}
-use Rattle.gaz_rules.specs.Bases.{basis_views, judged_on}
+use Rattle.gaz_end_rules.specs.Bases.{basis_views}
+use Rattle.gaz_rules.specs.Judging.{bases_of, end_faults, judge, judged_on, record_faults}
 use Rattle.gaz_rules.specs.Sound.{AllHoldOwn, HoldsOwn}
 use Rattle.gaz_rules.specs.Laws.{OwnNumbersStay}
 use Rattle.gaz_rules.proofs.Judged.{all_kept, both_empty, stays_or_same}
 use Rattle.gaz_rules.proofs.SoundBoards.{on_empty_board, on_more, unheld}
-use Rattle.gaz_rules.proofs.Booleans.{no_false}
+use Rattle.gaz_end_rules.proofs.Booleans.{no_false}
 
 empty_own : (own : Blocks) → HoldsOwn own empty_view
 empty_own own uprn h = no_false _ h (unheld (key.Blpu uprn))

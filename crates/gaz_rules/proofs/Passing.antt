@@ -15,10 +15,11 @@ use Rattle.gaz_views.specs.declared.custody.Custody.{Custody}
 use Rattle.gaz_views.specs.declared.custody.Custody.TheVariants.{Adopted, Released}
 use Rattle.gaz_rules.specs.CustodyRules.{basis_of, holds_number, is_released_to, was_released}
 use Rattle.gaz_rules.specs.Passing.{IsAsked, PassesAsAsked, made_of}
-use Rattle.gaz_rules.specs.Rules.{effect_of, entry_effect, first_broken, record_rules}
+use Rattle.gaz_rules.specs.Rules.{effect_of, entry_effect, record_rules}
+use Rattle.gaz_changefile.specs.Rules.{first_broken}
 use Rattle.gaz_rules.proofs.Judged.{after_passing, none_broken}
 use Rattle.gaz_rules.proofs.PassingSentences.{released_told}
-use Rattle.gaz_rules.proofs.Booleans.{and_then_gives, not_false, some_passes}
+use Rattle.gaz_end_rules.proofs.Booleans.{and_then_gives, not_false, some_passes}
 
 -- ---- the effect
 

@@ -12,8 +12,8 @@ use Rattle.gaz_views.specs.declared.custody.Custody.{Custody}
 use Rattle.gaz_views.specs.declared.custody.Custody.TheVariants.{Adopted, Released}
 use Rattle.gaz_rules.specs.CustodyRules.{basis_of, is_released_to, is_stale, is_unreleased, is_wrong_hop, was_released}
 use Rattle.gaz_rules.specs.RecordSentences.{AdoptsLate, AdoptsUnreleased, IsBasisOf, ReleasesOutOfTurn}
-use Rattle.gaz_rules.proofs.SoundBoards.{all_first, all_rest}
-use Rattle.gaz_rules.proofs.Booleans.{and_then_gives, both_parts, false_by, joined, no_false, not_true, passes_some, some_passes}
+use Rattle.gaz_end_rules.proofs.Elements.{all_first, all_rest}
+use Rattle.gaz_end_rules.proofs.Booleans.{and_then_gives, both_parts, false_by, joined, no_false, not_true, passes_some, some_passes}
 
 pub numbers_differ : (x y : ℕ) → not (nat_eq x y) ≡ true → x ≢ y
 numbers_differ x y h e = no_false (nat_eq x y) (eq-eqb x y e) (not_true _ h)

@@ -19,17 +19,18 @@ use Rattle.gaz_views.specs.declared.verdict.Verdict.{Verdict}
 use Rattle.gaz_views.specs.declared.verdict.Verdict.TheVariants.{Applied, Rejected}
 use Rattle.gaz_keeper.proofs.Keeping.{keeps_then, still_open}
 use Rattle.gaz_views.proofs.Outcomes.{on_err, on_ok}
-use Rattle.gaz_rules.specs.Bases.{are_reached, basis_views, judged_on}
-use Rattle.gaz_rules.specs.EndRules.{end_rules}
+use Rattle.gaz_end_rules.specs.Bases.{are_reached, basis_views}
+use Rattle.gaz_end_rules.specs.EndRules.{end_rules}
 use Rattle.gaz_rules.specs.Judges.{IsReady, Judges}
-use Rattle.gaz_rules.specs.Judging.{Fault, end_faults, fault_at, judge, judged_by_faults, record_faults}
-use Rattle.gaz_rules.specs.Knowing.{IsRight}
+use Rattle.gaz_rules.specs.Judging.{Fault, end_faults, fault_at, judge, judged_by_faults, judged_on, record_faults}
+use Rattle.gaz_end_rules.specs.Knowing.{IsRight}
 use Rattle.gaz_rules.specs.Phases.{Ends, Finds, IsFirst, Works, conclusion, faults_in}
 use Rattle.gaz_views.specs.Words.{first_of}
-use Rattle.gaz_rules.specs.Rules.{effect, first_broken}
+use Rattle.gaz_rules.specs.Rules.{effect}
+use Rattle.gaz_changefile.specs.Rules.{first_broken}
 use Rattle.gaz_rules.specs.declared.judging.Fault as found
-use Rattle.gaz_rules.specs.declared.known.Known.{Known}
-use Rattle.gaz_rules.proofs.Progress.{keeps_itself}
+use Rattle.gaz_end_rules.specs.declared.known.Known.{Known}
+use Rattle.gaz_end_rules.proofs.Progress.{keeps_itself}
 
 -- ---- the end rules, key by key
 
@@ -45,7 +46,7 @@ pub record AskedSoFar (old now : Seen) (c : ℕ) (bases : List Basis) (all left 
 
 -- what the end rules' code tells of a content
 abbrev pub Told : List Basis → Item → Option ℕ → Known → Known → Content → Type 0
-Told bases item r before after k = are_reached k.board bases ≡ true → IsRight k.working (basis_views k.board bases) before → IsRight k.working (basis_views k.board bases) after × (r ≡ first_broken (end_rules k.working (basis_views k.board bases) (key_of item)))
+Told bases item r before after k = are_reached k.board bases ≡ true → IsRight k.working (basis_views k.board bases) before → IfNone r (IsRight k.working (basis_views k.board bases) after) × (r ≡ first_broken (end_rules k.working (basis_views k.board bases) (key_of item)))
 
 -- nothing was asked so far
 pub asked_none : (s : Seen) (c : ℕ) (bases : List Basis) (all : List Change) (known : Known) → s.progress ≡ Open c → ((v : View) (out : List (ℕ × View)) → IsRight v out known) → AskedSoFar s s c bases all all known
@@ -64,7 +65,7 @@ pub asked_next : (old now next : Seen) (c : ℕ) (bases : List Basis) (all : Lis
     i < length all → ch ≡ get_or all i ch → AskedSoFar old now c bases all (drop i all) before →
     Reads {T = Option ℕ} now next (Ok r) (λ r. Told bases ch.item r before after now.content) →
     old.stands → next.unharmed → are_reached old.content.board bases ≡ true →
-    IsRight old.content.working (basis_views old.content.board bases) after
+    IfNone r (IsRight old.content.working (basis_views old.content.board bases) after)
     × (end_faults old.content.working (basis_views old.content.board bases) all ≡ cons_option (fault_at ch.place r) (end_faults old.content.working (basis_views old.content.board bases) (drop (i + 1) all)))
 asked_next old now next c bases all i ch before after r h e so_far asked stood fine ready =
     let mid = asked.keeps.harm fine in

@@ -20,10 +20,10 @@ use Rattle.gaz_views.specs.Words.{same_lang}
 use Rattle.gaz_rules.specs.Rules.{holds_number, is_delete, is_insert, is_missing, is_moved, is_outside, is_update, is_used_again, moves_what_stays, stays, takes_what_stays}
 use Rattle.gaz_rules.specs.RecordSentences.{ChangesNothing, DeletesWhatStays, HoldsNot, InsertsAgain, IsAnothers, IsInNone, IsStreetOrBlpu, LiesOutside, MovesItem, PassesOn, RecordTestsSay}
 use Rattle.gaz_rules.proofs.PassingSentences.{differing_numbers, late_from, late_told, numbers_differ, out_of_turn_from, out_of_turn_told, unreleased_from, unreleased_told}
-use Rattle.gaz_rules.proofs.Approved.{same_lang_is, same_lang_itself}
-use Rattle.gaz_rules.proofs.SoundBoards.{all_first, all_rest}
-use Rattle.gaz_rules.proofs.Sentences.{unheld_none}
-use Rattle.gaz_rules.proofs.Booleans.{both_false, both_parts, false_by, joined, neither, no_false, not_true, or_true}
+use Rattle.gaz_end_rules.proofs.Approved.{same_lang_is, same_lang_itself}
+use Rattle.gaz_end_rules.proofs.Elements.{all_first, all_rest}
+use Rattle.gaz_end_rules.proofs.Sentences.{unheld_none}
+use Rattle.gaz_end_rules.proofs.Booleans.{both_false, both_parts, false_by, joined, neither, no_false, not_true, or_true}
 
 -- ---- releases and adoptions, and no others, are no entries
 

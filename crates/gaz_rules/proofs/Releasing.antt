@@ -15,10 +15,11 @@ use Rattle.gaz_register.specs.Registers.{Blocks}
 use Rattle.gaz_views.specs.Custody.{hop_of}
 use Rattle.gaz_views.specs.View.{View, custody_at}
 use Rattle.gaz_keeper.specs.Board.{Board, reached, view_after}
-use Rattle.gaz_rules.specs.Bases.{are_reached, basis_views}
+use Rattle.gaz_end_rules.specs.Bases.{are_reached, basis_views}
 use Rattle.gaz_rules.specs.CustodyRules.{is_released_to, was_released}
-use Rattle.gaz_rules.specs.Rules.{first_broken, is_delete, is_moved, is_update, moves_what_stays, record_rules, takes_what_stays}
-use Rattle.gaz_rules.proofs.Booleans.{and_false, both_parts}
+use Rattle.gaz_changefile.specs.Rules.{first_broken}
+use Rattle.gaz_rules.specs.Rules.{is_delete, is_moved, is_update, moves_what_stays, record_rules, takes_what_stays}
+use Rattle.gaz_end_rules.proofs.Booleans.{and_false, both_parts}
 
 -- ---- the basis line of a custodian
 

@@ -16,15 +16,16 @@ use Rattle.gaz_register.specs.Registers.{Blocks, IsRegister, Owners, RegisterVal
 use Rattle.gaz_views.specs.View.{View, empty_view, holds}
 use Rattle.gaz_views.specs.Words.{approved_of, approved_on, blpu_named, has_children, tied}
 use Rattle.gaz_keeper.specs.Board.{Board, Judgement, adds, empty_board, last_view, reached, view_after}
-use Rattle.gaz_rules.specs.EndRules.{ancestor, approved_at, as_approved, as_blpu, closed_under_lpi, lacks_blpu, lacks_own_street, lacks_parent, leaves_lpi, leaves_parts, leaves_ties, parent_of, past_under_lpi}
-use Rattle.gaz_rules.specs.Judging.{bases_of, judge}
-use Rattle.gaz_rules.specs.Bases.{basis_views, judged_on}
+use Rattle.gaz_end_rules.specs.EndRules.{ancestor, approved_at, as_approved, as_blpu, closed_under_lpi, lacks_blpu, lacks_own_street, lacks_parent, leaves_lpi, leaves_parts, leaves_ties, parent_of, past_under_lpi}
+use Rattle.gaz_end_rules.specs.Bases.{basis_views}
+use Rattle.gaz_rules.specs.Judging.{bases_of, judge, judged_on}
 use Rattle.gaz_rules.specs.Sound.{AreDisjoint, AreSoundBases, IsSound, IsSoundBasis, IsSoundBoard, NamesOthers}
 use Rattle.gaz_rules.specs.Laws.{BoardsStaySound, StaysSound}
-use Rattle.gaz_rules.proofs.Approved.{on_gives, some_gives}
+use Rattle.gaz_end_rules.proofs.Approved.{on_gives, some_gives}
+use Rattle.gaz_end_rules.proofs.Elements.{all_first, all_rest}
 use Rattle.gaz_rules.proofs.Judged.{judge_sound}
-use Rattle.gaz_rules.proofs.Ties.{parts_gives, tied_gives}
-use Rattle.gaz_rules.proofs.Booleans.{and_false, both_false, both_parts, fails_none, false_by, no_false, passes_some}
+use Rattle.gaz_end_rules.proofs.Ties.{parts_gives, tied_gives}
+use Rattle.gaz_end_rules.proofs.Booleans.{and_false, both_false, both_parts, fails_none, false_by, no_false, passes_some}
 
 -- ---- the empty view
 
@@ -105,12 +106,6 @@ empty_sound own =
     }
 
 -- ---- basis views
-
-pub all_first : {X : Type 0} (P : X → Type 0) (x : X) (xs : List X) → All P (x ∷ xs) → P x
-all_first P x xs all = all 0 x (omega arith)
-
-pub all_rest : {X : Type 0} (P : X → Type 0) (x : X) (xs : List X) → All P (x ∷ xs) → All P xs
-all_rest P x xs all k d below = all (suc k) d (omega (arith, below))
 
 -- none of them has a street of the own blocks
 foreign_views : (own : Owners) (c : ℕ) (out : List (ℕ × View)) → AreDisjoint own → AreSoundBases own c out → (usrn : ℕ) → within (own c).usrn usrn ≡ true → find (λ u. holds u (key.Street usrn)) (map (λ (b : ℕ × View). b.1) out) ≡ None

@@ -12,13 +12,13 @@ use Rattle.gaz_records.specs.declared.key.Key.TheVariants as key
 use Rattle.gaz_register.specs.Registers.{Blocks, within}
 use Rattle.gaz_views.specs.View.{View, holds, was_used}
 use Rattle.gaz_views.specs.Words.{blpu_named, has_children, tied}
-use Rattle.gaz_rules.specs.EndRules.{ancestor, approved_at, as_approved, as_blpu, as_street, closed_under_lpi, end_rules, found_in, if_some, is_closed, is_historical, is_out_of_date, is_own_ancestor, is_past, is_second, is_unnamed, lacks_blpu, lacks_descriptor, lacks_own_street, lacks_parent, lacks_street, leaves_lpi, leaves_parts, leaves_ties, names_closed, names_past, parent_of, past_under_lpi, same_key, street_at}
+use Rattle.gaz_end_rules.specs.EndRules.{ancestor, approved_at, as_approved, as_blpu, as_street, closed_under_lpi, end_rules, found_in, if_some, is_closed, is_historical, is_out_of_date, is_own_ancestor, is_past, is_second, is_unnamed, lacks_blpu, lacks_descriptor, lacks_own_street, lacks_parent, lacks_street, leaves_lpi, leaves_parts, leaves_ties, names_closed, names_past, parent_of, past_under_lpi, same_key, street_at}
 use Rattle.gaz_rules.specs.Sound.{IsSound}
-use Rattle.gaz_rules.proofs.Approved.{of_from, of_gives, on_from, on_gives, same_lang_is, same_lang_itself, some_from, some_gives}
-use Rattle.gaz_rules.proofs.Keys.{key_itself, key_tied}
-use Rattle.gaz_rules.proofs.Ties.{part_at, parts_from, tied_from}
-use Rattle.gaz_rules.proofs.ParentRings.{join_chain, ring_breaks, some_below, split_chain}
-use Rattle.gaz_rules.proofs.Booleans.{and_then_gives, both_false, both_parts, by_test, false_by, joined, neither, no_false, not_false, not_true, passes_some, some_passes, true_by, weaker}
+use Rattle.gaz_end_rules.proofs.Approved.{of_from, of_gives, on_from, on_gives, same_lang_is, same_lang_itself, some_from, some_gives}
+use Rattle.gaz_end_rules.proofs.Keys.{key_itself, key_tied}
+use Rattle.gaz_end_rules.proofs.Ties.{part_at, parts_from, tied_from}
+use Rattle.gaz_end_rules.proofs.ParentRings.{join_chain, ring_breaks, some_below, split_chain}
+use Rattle.gaz_end_rules.proofs.Booleans.{and_then_gives, both_false, both_parts, by_test, false_by, joined, neither, no_false, not_false, not_true, passes_some, some_passes, true_by, weaker}
 
 -- ---- what passes
 

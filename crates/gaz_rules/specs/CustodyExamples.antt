@@ -10,7 +10,8 @@ use Rattle.gaz_views.specs.Examples.{blpu, council_tax, one_street, street}
 use Rattle.gaz_views.specs.View.{View, empty_view, with_adoption, with_item, with_release}
 use Rattle.gaz_rules.specs.CustodyRules.{adopt_breach, release_breach}
 use Rattle.gaz_rules.specs.Examples.{broken, one_reference, own}
-use Rattle.gaz_rules.specs.Rules.{delete_breach, first_broken, insert_breach, record_rules}
+use Rattle.gaz_rules.specs.Rules.{delete_breach, insert_breach, record_rules}
+use Rattle.gaz_changefile.specs.Rules.{first_broken}
 use Rattle.gaz_rules.specs.Rules.{update_breach}
 
 -- number 1001 given up to 1002, and property 500, of none of the own blocks, taken from 1002

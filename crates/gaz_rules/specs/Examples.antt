@@ -10,7 +10,8 @@ use Rattle.gaz_changefile.specs.declared.change.Change.{Change}
 use Rattle.gaz_views.specs.Examples.{blpu, council_tax, lpi, name, no_more, one_street, street}
 use Rattle.gaz_views.specs.View.{View, empty_view, with_item}
 use Rattle.gaz_register.specs.Registers.{Blocks}
-use Rattle.gaz_rules.specs.Rules.{first_broken, is_outside, record_rules, stays}
+use Rattle.gaz_changefile.specs.Rules.{first_broken}
+use Rattle.gaz_rules.specs.Rules.{is_outside, record_rules, stays}
 
 -- streets 100 to 199 and 300, properties 1000 to 1999
 abbrev pub own : Blocks

@@ -16,14 +16,14 @@ use Rattle.gaz_views.specs.View.{View, empty_view, with_adoption, with_item, wit
 use Rattle.gaz_views.specs.View.{without_key}
 use Rattle.gaz_views.specs.declared.verdict.Verdict.TheVariants.{Applied, Rejected}
 use Rattle.gaz_rules.specs.Rules.{effect}
-use Rattle.gaz_rules.specs.Judging.{bases_of, judge}
-use Rattle.gaz_rules.specs.Bases.{are_reached, judged_on}
+use Rattle.gaz_end_rules.specs.Bases.{are_reached}
+use Rattle.gaz_rules.specs.Judging.{bases_of, judge, judged_on}
 use Rattle.gaz_rules.specs.CustodyExamples.{WorkedPassing, adoption, gives, release, with_1001}
 use Rattle.gaz_rules.specs.CustodyExamples.{with_500}
 use Rattle.gaz_rules.specs.Examples.{WorkedKinds, WorkedRecordRules, WorkedTexts, again, file_of}
 use Rattle.gaz_rules.specs.Examples.{insertion, own}
-use Rattle.gaz_rules.specs.EndExamples.{WorkedEndRules, address, away, closed_street, closed_there}
-use Rattle.gaz_rules.specs.EndExamples.{home, of_custodian, open_there, view_of}
+use Rattle.gaz_end_rules.specs.EndExamples.{WorkedEndRules, address, away, closed_street}
+use Rattle.gaz_end_rules.specs.EndExamples.{closed_there, home, of_custodian, open_there, view_of}
 
 abbrev pub change : ℕ → Action → Item → Change
 change place action item = record { place = place; action = action; item = item }

@@ -9,7 +9,8 @@ use Rattle.gaz_views.specs.declared.verdict.Verdict.{Verdict}
 use Rattle.gaz_changefile.specs.Contents.{Contents}
 use Rattle.gaz_changefile.specs.Reading.{Good}
 use Rattle.gaz_register.specs.Registers.{Blocks}
-use Rattle.gaz_rules.specs.Bases.{are_reached, judged_on}
+use Rattle.gaz_end_rules.specs.Bases.{are_reached}
+use Rattle.gaz_rules.specs.Judging.{judged_on}
 
 -- what is asked of the content: the next volume is at hand, and all that it rests on is reached
 pub record IsReady (k : Content) (c : ℕ) (bases : List Basis) : Type 0 where

@@ -7,11 +7,13 @@ pub use Rattle.gaz_changefile.specs.Reading.{Bad, Fault, Good, Reading}
 use Rattle.gaz_changefile.specs.declared.change.Basis.{Basis}
 use Rattle.gaz_changefile.specs.declared.change.Change.{Change}
 use Rattle.gaz_views.specs.View.{View}
-use Rattle.gaz_keeper.specs.Board.{Judgement}
+use Rattle.gaz_keeper.specs.Board.{Board, Judgement, last_view}
 use Rattle.gaz_views.specs.declared.verdict.Verdict.TheVariants.{Applied, Rejected}
 use Rattle.gaz_register.specs.Registers.{Blocks}
-use Rattle.gaz_rules.specs.EndRules.{end_rules}
-use Rattle.gaz_rules.specs.Rules.{effect, record_rules, first_broken}
+use Rattle.gaz_end_rules.specs.Bases.{basis_views}
+use Rattle.gaz_end_rules.specs.EndRules.{end_rules}
+use Rattle.gaz_rules.specs.Rules.{effect, record_rules}
+use Rattle.gaz_changefile.specs.Rules.{first_broken}
 
 -- a file with a fault has no basis
 abbrev pub bases_of : Reading → List Basis
@@ -51,3 +53,7 @@ judge c own v others (Good file) =
     let w = fold effect v file.changes in
     judged_by_faults v w
     (record_faults c own others v file.changes ++ end_faults w others file.changes)
+
+-- what a custodian's next file comes to, which reads so
+abbrev pub judged_on : Blocks → Board → ℕ → Reading → Judgement
+judged_on own board c r = judge c own (last_view board c) (basis_views board (bases_of r)) r

@@ -1,31 +1,16 @@
 -- What a reader of the rules may rely on.
-use Rattle.std.specs.Prelude.{◌≡◌, ◌≤◌, ◌↔◌, ℕ, List, Some, true, false}
+use Rattle.std.specs.Prelude.{◌≡◌, ℕ, List, true, false}
 use Rattle.gaz_records.specs.declared.key.Key.{Key}
-use Rattle.gaz_records.specs.declared.key.Key.TheVariants as key
 use Rattle.gaz_changefile.specs.Reading.{Reading}
 use Rattle.gaz_register.specs.Registers.{Blocks, IsRegister, Owners, RegisterValue, blocks_of}
 use Rattle.gaz_register.specs.Registers.{within}
 use Rattle.gaz_views.specs.View.{View, empty_view}
 use Rattle.gaz_keeper.specs.Board.{Board, adds, empty_board}
-use Rattle.gaz_rules.specs.EndRules.{ancestor, is_apart, is_own_ancestor, is_untied}
+use Rattle.gaz_end_rules.specs.EndRules.{is_apart, is_untied}
 use Rattle.gaz_rules.specs.Judging.{judge}
-use Rattle.gaz_rules.specs.Bases.{judged_on}
+use Rattle.gaz_rules.specs.Judging.{judged_on}
 use Rattle.gaz_rules.specs.Sound.{AllHoldOwn, AreDisjoint, AreSoundBases, HoldsOwn, IsSound}
 use Rattle.gaz_rules.specs.Sound.{IsSoundBoard, NamesOthers}
-
--- ---- rings
-
--- a BLPU, and a chain of one or more parents leads from it to itself
-pub record IsOnRing (v : View) (k : Key) : Type 0 where
-  pub uprn : ℕ
-  pub is : k ≡ key.Blpu uprn
-  pub steps : ℕ
-  pub at_least_one : 1 ≤ steps
-  pub leads : ancestor v steps uprn ≡ Some uprn
-
--- rule 36 is broken on a ring of any length, and nowhere else
-abbrev pub FindsRings : Type 0
-FindsRings = (v : View) (k : Key) → (is_own_ancestor v k ≡ true) ↔ IsOnRing v k
 
 -- ---- touched keys are enough
 

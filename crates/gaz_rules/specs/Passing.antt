@@ -9,7 +9,8 @@ use Rattle.gaz_views.specs.View.{View, custody_at, hop_at}
 use Rattle.gaz_views.specs.declared.custody.Custody.{Custody}
 use Rattle.gaz_views.specs.declared.custody.Custody.TheVariants.{Adopted, Released}
 use Rattle.gaz_rules.specs.CustodyRules.{basis_of, holds_number}
-use Rattle.gaz_rules.specs.Rules.{effect_of, first_broken, record_rules}
+use Rattle.gaz_rules.specs.Rules.{effect_of, record_rules}
+use Rattle.gaz_changefile.specs.Rules.{first_broken}
 
 -- what a change makes of the number
 abbrev pub made_of : ℕ → Item → Option Custody

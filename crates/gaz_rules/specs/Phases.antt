@@ -14,7 +14,7 @@ use Rattle.gaz_views.specs.declared.verdict.Verdict.{Verdict}
 use Rattle.gaz_views.specs.declared.verdict.Verdict.TheVariants.{Applied, Rejected}
 use Rattle.gaz_register.specs.Registers.{Blocks}
 use Rattle.gaz_views.specs.Words.{first_of}
-use Rattle.gaz_rules.specs.Bases.{basis_views}
+use Rattle.gaz_end_rules.specs.Bases.{basis_views}
 use Rattle.gaz_rules.specs.Judging.{Fault, end_faults, record_faults}
 use Rattle.gaz_rules.specs.Rules.{effect}
 use Rattle.gaz_rules.specs.declared.judging.Fault as found

@@ -1,8 +1,7 @@
 -- The record rules of a change file, as tests on the view before a record.
 use Rattle.std.specs.Prelude.{ℕ, ◌==◌, Bool, true, false, not, ◌&&◌, ◌||◌, List, [], ◌∷◌, Option}
 use Rattle.std.specs.Prelude.{None, Some, if◌then◌else◌}
-use Rattle.std.specs.Option.{option_map, option_map_or}
-use Rattle.std.specs.List.{find}
+use Rattle.std.specs.Option.{option_map_or}
 use Rattle.std.specs.FinMap as map
 use Rattle.gaz_records.specs.Items.{is_entry}
 use Rattle.gaz_records.specs.Keys.{key_of}
@@ -117,7 +116,3 @@ update_breach v k i =
 
 abbrev pub delete_breach : View → Key → Item → Option ℕ
 delete_breach v k i = if holds v k then (if stays i then Some 23 else None) else Some 22
-
--- the least rule that is broken
-abbrev pub first_broken : List (ℕ × Bool) → Option ℕ
-first_broken rules = option_map (λ r. r.0) (find (λ r. r.1) rules)

@@ -11,9 +11,9 @@ use Rattle.gaz_views.specs.View.{View, holds, was_used}
 use Rattle.gaz_keeper.specs.Board.{Board, view_after}
 use Rattle.gaz_rules.specs.Judging.{bases_of}
 use Rattle.gaz_rules.specs.Rules.{holds_number}
-use Rattle.gaz_rules.specs.EndRules.{ancestor, approved_at, closed_under_lpi, is_out_of_date}
-use Rattle.gaz_rules.specs.EndRules.{is_second, is_unnamed, lacks_blpu, lacks_own_street}
-use Rattle.gaz_rules.specs.EndRules.{lacks_parent, names_closed}
+use Rattle.gaz_end_rules.specs.EndRules.{ancestor, approved_at, closed_under_lpi, is_out_of_date}
+use Rattle.gaz_end_rules.specs.EndRules.{is_second, is_unnamed, lacks_blpu, lacks_own_street}
+use Rattle.gaz_end_rules.specs.EndRules.{lacks_parent, names_closed}
 
 -- no key at all breaks an end rule by what stands in the view itself, and its streets are the
 -- custodian's own

@@ -10,8 +10,9 @@ use Rattle.gaz_changefile.specs.declared.change.Change.{Change}
 use Rattle.gaz_register.specs.Registers.{Blocks}
 use Rattle.gaz_views.specs.View.{View}
 use Rattle.gaz_views.specs.declared.verdict.Verdict.TheVariants.{Applied, Rejected}
-use Rattle.gaz_rules.specs.Rules.{effect, first_broken, record_rules}
-use Rattle.gaz_rules.specs.EndRules.{end_rules}
+use Rattle.gaz_rules.specs.Rules.{effect, record_rules}
+use Rattle.gaz_changefile.specs.Rules.{first_broken}
+use Rattle.gaz_end_rules.specs.EndRules.{end_rules}
 use Rattle.gaz_rules.specs.Judging.{judge}
 
 -- the changes of a list, with those before and after one of them

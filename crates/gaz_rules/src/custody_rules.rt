@@ -8,7 +8,7 @@ ghost use Rattle.gaz_views.specs.View.{custody_at};
 ghost use Rattle.gaz_keeper.specs.Board.{reached, view_after};
 ghost use Rattle.gaz_rules.specs.CustodyRules.{adopt_breach, holds_number, is_released_to};
 ghost use Rattle.gaz_rules.specs.CustodyRules.{release_breach, was_released};
-ghost use Rattle.gaz_rules.specs.Working.{IsJudging, ReadsContent, ReadsView, ReadsViews};
+ghost use Rattle.gaz_end_rules.specs.Working.{IsJudging, ReadsContent, ReadsView, ReadsViews};
 
 use crate::rule;
 use gaz_changefile::Basis;

@@ -3,14 +3,15 @@ ghost use Rattle.std.specs.Prelude.{◌≢◌, Some, None};
 ghost use Rattle.gaz_register.specs.Registers.{blocks_of};
 ghost use Rattle.gaz_keeper.specs.Keeper.{Idle};
 ghost use Rattle.gaz_rules.specs.Phases.{Concludes, GivesUp};
-ghost use Rattle.gaz_rules.specs.Working.{DoesPhases, DoesRecords, FindsEndFault, IsJudging};
+ghost use Rattle.gaz_end_rules.specs.Working.{IsJudging};
+ghost use Rattle.gaz_rules.specs.Working.{DoesPhases, DoesRecords, FindsEndFault};
 ghost use Rattle.gaz_keeper.specs.Telling.{IsNotJudging};
 ghost use Rattle.gaz_rules.specs.Judges.{JudgesFile};
 
-use crate::known::Known;
 use crate::performing::perform;
-use crate::{end_rules, record_rules};
+use crate::record_rules;
 use gaz_changefile::{Basis, Change, ChangeFile};
+use gaz_end_rules::Known;
 use gaz_ids::Code;
 use gaz_keeper::{Shelf, ShelfFault, Verdict};
 use gaz_register::Register;
@@ -61,7 +62,7 @@ fn end_phase<K: Shelf>(
     let mut known = Known::new(alloc);
     for change in changes {
         let place = change.place;
-        if let Some(rule) = end_rules::breach(keeper, code, bases, &mut known, &change.item)? {
+        if let Some(rule) = gaz_end_rules::breach(keeper, code, bases, &mut known, &change.item)? {
             return Ok(Some(Fault { place, rule }));
         }
     }

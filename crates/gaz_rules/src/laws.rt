@@ -1,9 +1,8 @@
 //! What a reader of the definitions may rely on.
 ghost use Rattle.gaz_rules.specs.JudgedExamples.{WorkedExamples};
-ghost use Rattle.gaz_rules.specs.Laws.{BoardsStaySound, FindsRings, OwnNumbersStay, StaysSound};
+ghost use Rattle.gaz_rules.specs.Laws.{BoardsStaySound, OwnNumbersStay, StaysSound};
 ghost use Rattle.gaz_rules.specs.Passing.{PassesAsAsked};
 ghost use Rattle.gaz_rules.specs.RecordSentences.{RecordTestsSay};
-ghost use Rattle.gaz_rules.specs.Sentences.{TestsSay};
 ghost use Rattle.gaz_rules.specs.Verdicts.{JudgesSay};
 
 /// What the definitions come to on worked examples.
@@ -17,17 +16,9 @@ pub fn judges_say()
     ensures { JudgesSay }
 {}
 
-/// The tests of the record rules, of the end rules but rule 36, and of where a street is found, are
-/// true just where their sentences hold.
+/// The tests of the record rules are true just where their sentences hold.
 pub fn tests_say()
     ensures records { RecordTestsSay }
-    ensures ends { TestsSay }
-{}
-
-/// Rule 36 is broken where a chain of one or more parents, of any length, leads from a property to
-/// itself, and nowhere else.
-pub fn finds_rings()
-    ensures { FindsRings }
 {}
 
 /// Touched keys are enough: judging a file leaves a sound view sound, where it rests on sound views

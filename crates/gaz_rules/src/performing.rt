@@ -3,7 +3,8 @@ ghost use Rattle.std.specs.Prelude.{◌≡◌, true};
 ghost use Rattle.gaz_records.specs.Items.{is_entry};
 ghost use Rattle.gaz_views.specs.View.{with_adoption, with_item};
 ghost use Rattle.gaz_rules.specs.Rules.{effect, entry_effect};
-ghost use Rattle.gaz_rules.specs.Working.{IsJudging, MakesView};
+ghost use Rattle.gaz_end_rules.specs.Working.{IsJudging};
+ghost use Rattle.gaz_rules.specs.Working.{MakesView};
 
 use crate::adopting::item_of;
 use gaz_changefile::{Action, Change};

@@ -4,14 +4,15 @@ ghost use Rattle.gaz_records.specs.Items.{is_entry};
 ghost use Rattle.gaz_records.specs.Keys.{key_of};
 ghost use Rattle.gaz_register.specs.Registers.{Blocks, blocks_of};
 ghost use Rattle.gaz_views.specs.View.{View};
-ghost use Rattle.gaz_rules.specs.Rules.{delete_breach, first_broken, insert_breach, is_moved};
+ghost use Rattle.gaz_rules.specs.Rules.{delete_breach, insert_breach, is_moved};
+ghost use Rattle.gaz_changefile.specs.Rules.{first_broken};
 ghost use Rattle.gaz_rules.specs.Rules.{is_outside, record_rules, stays, update_breach};
-ghost use Rattle.gaz_rules.specs.Working.{IsJudging, ReadsView, ReadsViews};
+ghost use Rattle.gaz_end_rules.specs.Working.{IsJudging, ReadsView, ReadsViews};
 
 use crate::custody_rules::{adopt_breach, holds_number, release_breach};
-use crate::key_faults::is_there;
 use crate::rule;
 use gaz_changefile::{Action, Basis, Change};
+use gaz_end_rules::is_there;
 use gaz_ids::Code;
 use gaz_keeper::{Shelf, ShelfFault};
 use gaz_records::{Item, Key, key_of};

@@ -7,7 +7,7 @@ use Rattle.gaz_changefile.specs.Reading.{Reading}
 use Rattle.gaz_register.specs.Registers.{Owners}
 use Rattle.gaz_keeper.specs.Board.{Board, adds}
 use Rattle.gaz_keeper.specs.Received.{Received}
-use Rattle.gaz_rules.specs.Bases.{judged_on}
+use Rattle.gaz_rules.specs.Judging.{judged_on}
 use Rattle.gaz_steps.specs.Standing.{judge_one, next_reading, with_next}
 
 -- it is the judgement that the board gets

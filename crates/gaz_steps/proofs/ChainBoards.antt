@@ -8,7 +8,7 @@ use Rattle.gaz_changefile.specs.Reading.{Reading, reading}
 use Rattle.gaz_chains.specs.Events.{appended}
 use Rattle.gaz_keeper.specs.Board.{Board, Judgement, adds, reached, views}
 use Rattle.gaz_keeper.specs.Received.{Received}
-use Rattle.gaz_rules.specs.Bases.{judged_on}
+use Rattle.gaz_rules.specs.Judging.{judged_on}
 use Rattle.gaz_views.specs.View.{empty_view}
 use Rattle.gaz_steps.specs.Became.{became, made_from, made_in, reading_at}
 use Rattle.gaz_steps.specs.Standing.{judge_one, ready}

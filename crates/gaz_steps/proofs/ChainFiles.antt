@@ -15,7 +15,8 @@ use Rattle.gaz_rules.proofs.Passing.{passes_as_asked_holds}
 use Rattle.gaz_rules.specs.CustodyRules.{basis_of}
 use Rattle.gaz_rules.specs.Judging.{Fault, end_faults, fault_at, judge, judged_by_faults, record_faults}
 use Rattle.gaz_rules.specs.Passing.{IsAsked, made_of}
-use Rattle.gaz_rules.specs.Rules.{effect, first_broken, record_rules}
+use Rattle.gaz_rules.specs.Rules.{effect, record_rules}
+use Rattle.gaz_changefile.specs.Rules.{first_broken}
 use Rattle.gaz_views.specs.Custody.{hop_of, is_holding}
 use Rattle.gaz_views.specs.View.{View, custody_at}
 use Rattle.gaz_views.specs.declared.custody.Custody.{Custody}

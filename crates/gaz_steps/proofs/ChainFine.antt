@@ -18,9 +18,9 @@ use Rattle.gaz_keeper.specs.Board.{Board, Judgement, adds, empty_board, last_vie
 use Rattle.gaz_keeper.specs.Received.{Received}
 use Rattle.gaz_register.proofs.Ownership.{one-owner}
 use Rattle.gaz_register.specs.Registers.{IsRegister, Owners, RegisterValue, blocks_of, owner_of_uprn, within}
-use Rattle.gaz_rules.specs.Bases.{basis_views, judged_on}
+use Rattle.gaz_end_rules.specs.Bases.{basis_views}
 use Rattle.gaz_rules.specs.CustodyRules.{basis_of}
-use Rattle.gaz_rules.specs.Judging.{bases_of}
+use Rattle.gaz_rules.specs.Judging.{bases_of, judged_on}
 use Rattle.gaz_views.specs.Custody.{is_holding}
 use Rattle.gaz_views.specs.View.{View, custody_at, empty_view}
 use Rattle.gaz_views.specs.declared.custody.Custody.{Custody}

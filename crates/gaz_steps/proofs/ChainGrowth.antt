@@ -22,7 +22,7 @@ use Rattle.gaz_records.specs.Releases.{is_code, is_hop}
 use Rattle.gaz_records.specs.declared.item.Item.{Item}
 use Rattle.gaz_records.specs.declared.item.Item.TheVariants as item
 use Rattle.gaz_register.specs.Registers.{Owners, blocks_of}
-use Rattle.gaz_rules.specs.Bases.{judged_on}
+use Rattle.gaz_rules.specs.Judging.{judged_on}
 use Rattle.gaz_rules.specs.Passing.{made_of}
 use Rattle.gaz_views.specs.Custody.{hop_in}
 use Rattle.gaz_views.specs.declared.custody.Custody.{Custody}

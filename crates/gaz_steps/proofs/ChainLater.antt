@@ -6,7 +6,7 @@ use Rattle.gaz_chains.proofs.Lists.{has_kept}
 use Rattle.gaz_chains.proofs.Unique.{chains_go_on_holds}
 use Rattle.gaz_keeper.specs.Board.{Board, reached}
 use Rattle.gaz_keeper.specs.Received.{Received}
-use Rattle.gaz_rules.specs.Bases.{judged_on}
+use Rattle.gaz_rules.specs.Judging.{judged_on}
 use Rattle.gaz_views.specs.declared.custody.Custody.{Custody}
 use Rattle.gaz_steps.specs.Became.{became, made_in, reading_at}
 use Rattle.gaz_steps.specs.Chains.{ChainsOfBoards}

@@ -11,12 +11,13 @@ use Rattle.gaz_keeper.specs.Board.{Board, Judgement, adds, empty_board, last_vie
 use Rattle.gaz_keeper.specs.Received.{Received}
 use Rattle.gaz_register.proofs.Ownership.{one-owner}
 use Rattle.gaz_register.specs.Registers.{Blocks, IsRegister, Owners, RegisterValue, blocks_of, owner_of_uprn, within}
-use Rattle.gaz_rules.specs.Bases.{basis_views, judged_on}
+use Rattle.gaz_end_rules.specs.Bases.{basis_views}
 use Rattle.gaz_rules.proofs.Passing.{passes_as_asked_holds}
 use Rattle.gaz_rules.specs.CustodyRules.{basis_of}
-use Rattle.gaz_rules.specs.Judging.{Fault, bases_of, end_faults, fault_at, judge, judged_by_faults, record_faults}
+use Rattle.gaz_rules.specs.Judging.{Fault, bases_of, end_faults, fault_at, judge, judged_by_faults, judged_on, record_faults}
 use Rattle.gaz_rules.specs.Passing.{IsAsked, made_of}
-use Rattle.gaz_rules.specs.Rules.{effect, first_broken, record_rules}
+use Rattle.gaz_rules.specs.Rules.{effect, record_rules}
+use Rattle.gaz_changefile.specs.Rules.{first_broken}
 use Rattle.gaz_views.specs.Custody.{is_holding}
 use Rattle.gaz_views.specs.View.{View, custody_at, empty_view}
 use Rattle.gaz_views.specs.declared.custody.Custody.{Custody}

@@ -9,7 +9,7 @@ use Rattle.gaz_keeper.specs.Received.{Received}
 use Rattle.gaz_keeper.specs.declared.fault.ShelfFault.{ShelfFault}
 use Rattle.gaz_keeper.specs.declared.fault.ShelfFault.TheVariants.{Store}
 use Rattle.gaz_keeper.proofs.Keeping.{keeps_itself, keeps_then}
-use Rattle.gaz_rules.specs.Bases.{are_reached}
+use Rattle.gaz_end_rules.specs.Bases.{are_reached}
 use Rattle.gaz_rules.specs.Judging.{bases_of}
 use Rattle.gaz_extract.specs.Readings.{Looks}
 use Rattle.gaz_extract.proofs.Readings.{if_ok}

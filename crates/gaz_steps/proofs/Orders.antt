@@ -19,7 +19,7 @@ use Rattle.gaz_rules.specs.Judging.{bases_of, judge}
 use Rattle.gaz_keeper.specs.Board.{Judgement, Board, empty_board, reached, view_after}
 use Rattle.gaz_keeper.specs.Received.{HasAllOf, Received, pair_cmp}
 use Rattle.gaz_steps.specs.Standing.{ready, with_next, judge_one, round, rounds, standing, Leads, NothingReady, AnyOrder, MoreFiles}
-use Rattle.gaz_rules.specs.Bases.{basis_views, are_reached}
+use Rattle.gaz_end_rules.specs.Bases.{basis_views, are_reached}
 use Rattle.gaz_changefile.specs.declared.change.Basis.{Basis}
 use Rattle.gaz_steps.proofs.Prefixes.{prefix_length, prefix_same, prefix_push, get_front, get_front_plain, get_pushed, both_parts, joined, gives_some, at_some, count, count_all, one_more_counted, any_of_found, some_of_any}
 

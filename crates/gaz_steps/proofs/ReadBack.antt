@@ -26,8 +26,8 @@ use Rattle.gaz_views.proofs.Pages.{of_rows}
 use Rattle.gaz_views.specs.View.{View, empty_view, with_item, without_key}
 use Rattle.gaz_views.specs.Words.{entries}
 use Rattle.gaz_rules.proofs.SoundBoards.{on_empty_board, on_more}
-use Rattle.gaz_rules.specs.Bases.{basis_views, judged_on}
-use Rattle.gaz_rules.specs.Judging.{Fault, bases_of, end_faults, judge, judged_by_faults, record_faults}
+use Rattle.gaz_end_rules.specs.Bases.{basis_views}
+use Rattle.gaz_rules.specs.Judging.{Fault, bases_of, end_faults, judge, judged_by_faults, judged_on, record_faults}
 use Rattle.gaz_rules.specs.Rules.{effect, effect_of, entry_effect}
 use Rattle.gaz_keeper.specs.Board.{Board, empty_board, last_view, reached, view_after}
 use Rattle.gaz_keeper.specs.Received.{Received}

@@ -7,7 +7,7 @@ use Rattle.gaz_changefile.specs.Reading.{reading}
 use Rattle.gaz_changefile.specs.declared.change.Basis.{Basis}
 use Rattle.gaz_keeper.specs.Board.{Board, Judgement, reached, verdict_on}
 use Rattle.gaz_keeper.specs.Received.{Received}
-use Rattle.gaz_rules.specs.Bases.{are_reached}
+use Rattle.gaz_end_rules.specs.Bases.{are_reached}
 use Rattle.gaz_steps.specs.Outcomes.{first_unreached, wants, wants_as}
 use Rattle.gaz_steps.specs.Standing.{NothingReady}
 use Rattle.gaz_steps.proofs.Looks.{IsFile, ready_as, wants_for}

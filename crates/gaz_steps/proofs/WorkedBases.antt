@@ -13,10 +13,9 @@ use Rattle.gaz_ids.specs.Numbers.{read_id}
 use Rattle.gaz_fields.specs.Days.{date_of}
 use Rattle.gaz_fields.specs.Forms.{says}
 use Rattle.gaz_records.specs.Streets.{read_street}
-use Rattle.gaz_rules.proofs.Worked.{views}
+use Rattle.gaz_end_rules.proofs.Worked.{views}
 use Rattle.gaz_rules.specs.Examples.{file_of, insertion}
-use Rattle.gaz_rules.specs.Bases.{judged_on}
-use Rattle.gaz_rules.specs.Judging.{judge}
+use Rattle.gaz_rules.specs.Judging.{judge, judged_on}
 use Rattle.gaz_keeper.proofs.Pairs.{pairs_total}
 use Rattle.gaz_keeper.specs.Board.{Board, empty_board}
 use Rattle.gaz_keeper.specs.Received.{Received, pair_cmp, with_file}

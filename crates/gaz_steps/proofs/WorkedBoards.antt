@@ -4,7 +4,7 @@ use Rattle.std.specs.Option.{option_map}
 use Rattle.std.specs.Prelude.{Some, slice_get}
 use Rattle.std.specs.FinMap as map
 use Rattle.gaz_rules.specs.Judging.{judge}
-use Rattle.gaz_rules.proofs.Worked.{views}
+use Rattle.gaz_end_rules.proofs.Worked.{views}
 use Rattle.gaz_keeper.specs.Board.{Judgement, Board, empty_board}
 use Rattle.gaz_views.specs.View.{empty_view}
 use Rattle.gaz_views.specs.declared.verdict.Verdict.TheVariants.{Applied, Rejected}

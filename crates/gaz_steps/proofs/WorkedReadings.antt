@@ -8,7 +8,7 @@ use Rattle.gaz_extract.specs.Lookups.{lookup}
 use Rattle.gaz_records.specs.Keys.{key_cmp}
 use Rattle.gaz_records.specs.declared.key.Key.{Key}
 use Rattle.gaz_records.specs.declared.key.Key.TheVariants as key
-use Rattle.gaz_rules.proofs.Worked.{entries-none}
+use Rattle.gaz_end_rules.proofs.Worked.{entries-none}
 use Rattle.gaz_keeper.specs.Board.{empty_board}
 use Rattle.gaz_views.specs.View.{empty_view}
 use Rattle.gaz_steps.specs.Examples.{one_judged, sent}

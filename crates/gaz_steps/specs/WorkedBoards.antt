@@ -15,7 +15,8 @@ use Rattle.gaz_steps.specs.Standing.{Follows, IsPartial, Leads, NothingReady}
 use Rattle.gaz_steps.specs.Standing.{StandsSettled, judge_one, next_reading, ready}
 use Rattle.gaz_steps.specs.Standing.{round, rounds, standing, with_next}
 use Rattle.gaz_keeper.specs.Received.{HasAllOf, pair_cmp, with_file}
-use Rattle.gaz_rules.specs.Bases.{are_reached, basis_views, judged_on}
+use Rattle.gaz_end_rules.specs.Bases.{are_reached, basis_views}
+use Rattle.gaz_rules.specs.Judging.{judged_on}
 use Rattle.gaz_steps.specs.Sample.{sample_register}
 use Rattle.gaz_steps.specs.Examples.{all_sent, first_sent, no_text, no_text_judged, of_1003}
 use Rattle.gaz_steps.specs.Examples.{one_judged, sent, sent_by_two, three_judged}

@@ -7,7 +7,7 @@ use Rattle.std.specs.Option.{option_map_or}
 use Rattle.gaz_keeper.specs.Board.{view_after}
 use Rattle.gaz_views.specs.View.{custody_at}
 use Rattle.gaz_rules.specs.CustodyRules.{is_released_to}
-use Rattle.gaz_rules.proofs.Progress.{reads_none}
+use Rattle.gaz_end_rules.proofs.Progress.{reads_none}
 use Rattle.gaz_rules.proofs.Releasing.{found_reached, found_released, none_released}
 use Rattle.gaz_rules.proofs.custody_rules.was_released.Goals as goal
 

@@ -6,10 +6,11 @@ use Rattle.std.specs.List.{cons_option}
 use Rattle.gaz_keeper.proofs.Keeping.{still_open}
 use Rattle.gaz_keeper.specs.Keeper.{Open, after_abandon}
 use Rattle.gaz_register.specs.Registers.{blocks_of}
-use Rattle.gaz_rules.specs.Bases.{are_reached, basis_views}
+use Rattle.gaz_end_rules.specs.Bases.{are_reached, basis_views}
 use Rattle.gaz_rules.specs.Judging.{fault_at, record_faults}
 use Rattle.gaz_views.specs.Words.{first_of}
-use Rattle.gaz_rules.specs.Rules.{effect, first_broken, record_rules}
+use Rattle.gaz_rules.specs.Rules.{effect, record_rules}
+use Rattle.gaz_changefile.specs.Rules.{first_broken}
 use Rattle.gaz_rules.proofs.judging.record_phase.Goals as goal
 
 pub returns-in-Some : goal.returns-in-Some

@@ -4,7 +4,7 @@ use Rattle.std.specs.List.{fold}
 use Rattle.std.specs.Prelude.{None}
 use Rattle.gaz_register.specs.Registers.{blocks_of}
 use Rattle.gaz_keeper.specs.Keeper.{IsSound, LeavesAtMost, Open, after_abandon, with_working}
-use Rattle.gaz_rules.specs.Bases.{are_reached, basis_views}
+use Rattle.gaz_end_rules.specs.Bases.{are_reached, basis_views}
 use Rattle.gaz_rules.specs.Judging.{record_faults}
 use Rattle.gaz_rules.specs.Rules.{effect}
 use Rattle.gaz_rules.proofs.judging.record_phase.Given as goal

@@ -1,6 +1,5 @@
-use Rattle.gaz_rules.proofs.KeySentences.{tests_say_holds}
 use Rattle.gaz_rules.proofs.RecordSentences.{record_tests_say_holds}
 use Rattle.gaz_rules.proofs.laws.tests_say.Goals as goal
 
 pub returns : goal.returns
-returns c = record { records = record_tests_say_holds; ends = tests_say_holds }
+returns c = record { records = record_tests_say_holds }

@@ -2,9 +2,10 @@
 use Rattle.std.proofs.Common.{◌≡◌, ◌∙◌, ap, sym}
 use Rattle.gaz_register.specs.Registers.{blocks_of}
 use Rattle.gaz_records.specs.declared.item.Item.TheVariants as item
-use Rattle.gaz_rules.specs.Bases.{basis_views}
-use Rattle.gaz_rules.specs.Rules.{first_broken, record_rules}
-use Rattle.gaz_rules.proofs.Progress.{reads_as}
+use Rattle.gaz_end_rules.specs.Bases.{basis_views}
+use Rattle.gaz_changefile.specs.Rules.{first_broken}
+use Rattle.gaz_rules.specs.Rules.{record_rules}
+use Rattle.gaz_end_rules.proofs.Progress.{reads_as}
 use Rattle.gaz_rules.proofs.Releasing.{adopt_rules}
 use Rattle.gaz_rules.proofs.record_rules.breach.Goals as goal
 

@@ -1,0 +1,13 @@
+pub mod Booleans
+pub mod Elements
+pub mod Keys
+pub mod ParentRings
+pub mod Approved
+pub mod Ties
+pub mod Sentences
+pub mod KeySentences
+pub mod Worked
+pub mod Walks
+pub mod Progress
+pub mod Breaching
+pub mod EndExamples

@@ -1,0 +1,10 @@
+pub mod EndRules
+pub mod Bases
+pub mod Working
+pub mod Rings
+pub mod Streets
+pub mod Knowing
+pub mod Breaches
+pub mod Laws
+pub mod Sentences
+pub mod EndExamples
