@@ -33,7 +33,7 @@ module _ {D : Type 0} (g : disk.Ghosts D) (files : Files D) (left : Option (File
     opens_none (Ok told) lacks = tt
     opens_none (Err refusal) lacks =
         let why : HasNoStore g register refusal conn back =
-        record { lacking = λ none. ap Err (why_is (lacks.lacking none)); rows = lacks.rows; judged = lacks.judged; over = lacks.over; untouched = lacks.untouched } in
+        record { lacking = λ none. ap Err (why_is (lacks.lacking none)); rows = lacks.rows; judged = lacks.judged; refused = lacks.refused; untouched = lacks.untouched } in
         HandedBack (over _ why)
 
     pub migrates_none : (held : Result Migration StoreRefusal) → StopsMoving over_files register conn back → migrating.LacksBoth over_files register conn back held → IfErr held (MigratesNone g files left register)

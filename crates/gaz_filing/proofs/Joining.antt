@@ -1,9 +1,9 @@
 -- Calls over the same files are one run of one hub.
-use Rattle.std.proofs.Common.{◌≡◌, List, [], ◌∷◌, map, ◌∙◌, inl, inr, Option, Some, Err, ap, arith, refl, subst, sym}
+use Rattle.std.proofs.Common.{◌≡◌, List, [], ◌∷◌, map, ◌∙◌, inl, inr, Option, Some, Err, ap, refl, subst, sym}
 use Rattle.sqlite.specs.Effect.{Database}
 use Rattle.sqlite.specs.Files.{file_state, over_files}
 use Rattle.sqlite.specs.Held.{Held}
-use Rattle.sqlite.specs.State.{State, HasCleanDisk, Survives}
+use Rattle.sqlite.specs.State.{HasCleanDisk}
 use Rattle.sqlite.proofs.Callers.{finds_again}
 use Rattle.sqlite_catalog.proofs.ReadLemmas.{lists_once}
 use Rattle.sqlite_catalog.specs.Listing.{Lists}
@@ -20,16 +20,12 @@ use Rattle.gaz_stored.proofs.Calling as calling
 use Rattle.gaz_stored.proofs.Reopening as reopening
 use Rattle.gaz_stored.proofs.Using.{made_alone}
 use Rattle.gaz_stored.specs.Calls as stored
-use Rattle.gaz_stored.specs.Calls.{CutOff, IsFoundAfter, Whole}
+use Rattle.gaz_stored.specs.Calls.{CameTo, CutOff, IsFoundAfter, Whole}
 use Rattle.gaz_stored.specs.Reopening.{HasStoreOf, OpensOrFails, OpensThen}
 use Rattle.gaz_stored.specs.Runs.{GoesOn}
 use Rattle.gaz_steps.specs.Step.{new_hub}
 use Rattle.gaz_filing.specs.Filing.{Closes, Connects}
 use Rattle.gaz_filing.specs.Joined.{CallsAreOne, FileCall, FollowOn, IsGiven, IsPassedOn, NextOpens, call_over, came_over}
-
--- a disk that is clean after a call was so before
-clean_before : (old new : State) → Survives old new (λ _. ⊥) → HasCleanDisk new → HasCleanDisk old
-clean_before old new survives clean = let le = survives.clean in omega (arith, le, clean)
 
 -- a refusal that is told of a store under its register
 just_a_fault : (refusal : StoreRefusal) → OpensOrFails (Err refusal) → refusal ≡ Fault
@@ -57,9 +53,16 @@ module _ {D : Type 0} (g : disk.Ghosts D) where
       let schema : (file_state conn).now.schema ≡ (file_state old).now.schema = lists_once _ _ _ listed lists in
       λ i. record { schema = schema i; trees = trees i }
 
+  -- a call found a disk that had returned what was written, where what is found after it says so
+  was_clean : {before after : Held (FileStore D g)} {found : Database} → CameTo (over_files {D = D} {g = g}) before after → IsFoundAfter (over_files {D = D} {g = g}) before after found → HasCleanDisk (file_state before)
+  was_clean came (Whole fine same) = calling.was_clean (over_files {D = D} {g = g}) came fine.clean
+  was_clean came (CutOff itself may) = calling.was_clean (over_files {D = D} {g = g}) came may.clean
+
   -- a call that is given the files shows it
   given_shows : (next : FileCall g) (old : Held (FileStore D g)) (left : Option (Files D)) → Closes g old left → IsGiven g next left → (file_state (came_over g next.call).conn).now ≡ (file_state old).now
-  given_shows next old left closes given = shown_again old (came_over g next.call).conn next.files (subst (Closes g old) given.0 closes) (came_over g next.call).connects given.1
+  given_shows next old left closes given =
+      let over = came_over g next.call in
+      shown_again old over.conn next.files (subst (Closes g old) given closes) over.connects (was_clean over.does next.is_found)
 
   -- so each finds what is found after the one before
   passes_on : (before after : Held (FileStore D g)) (found : Database) (is_found : IsFoundAfter (over_files {D = D} {g = g}) before after found) (left : Option (Files D)) (next : FileCall g) → Closes g after left → IsPassedOn g is_found left next
@@ -94,8 +97,7 @@ module _ {D : Type 0} (g : disk.Ghosts D) where
   next_opens = record {
     opens = opens;
     lacks = λ register old files left refusal store closes over clean.
-        let before = clean_before (file_state over.conn) (file_state over.after) over.does.untouched.leaves clean in
-        just_a_fault refusal (opens register old over.conn over.after files store closes over.connects before (Err refusal) clean over.does.judged);
-    migrates = λ register old files left refusal store closes over before clean.
-        just_a_fault refusal (opens register old over.conn over.after files store closes over.connects before (Err refusal) clean over.does.0.judged);
+        just_a_fault refusal (opens register old over.conn over.after files store closes over.connects (over.does.refused.trust clean) (Err refusal) clean over.does.judged);
+    migrates = λ register old files left refusal store closes over clean.
+        just_a_fault refusal (opens register old over.conn over.after files store closes over.connects (over.does.0.refused.trust clean) (Err refusal) clean over.does.0.judged);
   }

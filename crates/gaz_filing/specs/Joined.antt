@@ -96,10 +96,9 @@ module _ {D : Type 0} (g : disk.Ghosts D) where
         is_found = it.is_found;
       }
 
-  -- it was given these files, on a disk that returned what was written
+  -- it was given these files
   abbrev pub IsGiven : FileCall → Option (Files D) → Type 0
-  IsGiven next left =
-      (left ≡ Some next.files) × HasCleanDisk (file_state (came_over next.call).conn)
+  IsGiven next left = left ≡ Some next.files
 
   -- the next call was given the files that this one gave back; or it shows what a stop left of it
   abbrev pub IsPassedOn : {before after : Held (FileStore D g)} {found : Database}
@@ -156,5 +155,4 @@ module _ {D : Type 0} (g : disk.Ghosts D) where
         (left : Option (Files D)) (refusal : StoreRefusal)
         → HasStoreOf register (file_state old).now → Closes g old (Some files)
         → (over : OverFiles g files left (HasNeither g register refusal))
-        → HasCleanDisk (file_state over.conn) → HasCleanDisk (file_state over.after)
-        → refusal ≡ Fault
+        → HasCleanDisk (file_state over.after) → refusal ≡ Fault

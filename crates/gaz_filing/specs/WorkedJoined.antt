@@ -1,18 +1,12 @@
 -- Worked examples on calls over the same files, one after another.
 use Rattle.std.specs.Prelude.{[], ◌∷◌, None, Some, refl}
 use Rattle.sqlite.specs.Files.{file_state, over_files}
-use Rattle.sqlite.specs.Held.{Held}
-use Rattle.sqlite.specs.State.{HasCleanDisk}
 use Rattle.sqlite_disk.specs.declared.Disk as disk
 use Rattle.sqlite_disk.specs.declared.Files.{Files}
-use Rattle.sqlite_store.specs.declared.store.FileStore.{FileStore}
 use Rattle.gaz_calls.specs.Seen.{IsUnharmed}
-use Rattle.gaz_kept.specs.declared.refusal.StoreRefusal.{StoreRefusal}
-use Rattle.gaz_register.specs.Registers.{RegisterValue}
 use Rattle.gaz_store.specs.Opened.{IsRefused}
 use Rattle.gaz_stored.specs.Calls.{Whole}
-use Rattle.gaz_filing.specs.Filing.{FailsToConnect, HasNeither, HasNoStore, IfConnectionFails}
-use Rattle.gaz_filing.specs.Filing.{OverFiles}
+use Rattle.gaz_filing.specs.Filing.{FailsToConnect, IfConnectionFails, OverFiles}
 use Rattle.gaz_filing.specs.Joined.{Declined, FileCall, FollowOn, IsGiven}
 
 module _ {D : Type 0} (g : disk.Ghosts D) where
@@ -32,16 +26,8 @@ module _ {D : Type 0} (g : disk.Ghosts D) where
   pub record WorkedJoined : Type 0 where
     pub none : (call : FileCall g) → FollowOn g call []
     pub twice : (files : Files D) (over : OverFiles g files (Some files) (IsRefused over_files))
-        (fine : IsUnharmed (file_state over.after)) → HasCleanDisk (file_state over.conn)
+        (fine : IsUnharmed (file_state over.after))
         → FollowOn g (in_vain files over fine) (in_vain files over fine ∷ [])
-    -- where there is no store of the register, a call was refused
-    pub refused : (register : RegisterValue) (refusal : StoreRefusal)
-        (conn back : Held (FileStore D g))
-        → HasNoStore g register refusal conn back → IsRefused over_files conn back
-    -- nor one that could be migrated to it
-    pub not_migrated : (register : RegisterValue) (refusal : StoreRefusal)
-        (conn back : Held (FileStore D g))
-        → HasNeither g register refusal conn back → IsRefused over_files conn back
     -- what is left as it was where no connection could be had, and nothing given back
     pub left_alone : (files : Files D) → FailsToConnect g files files
     pub kept_back : (files : Files D) → ¬ IfConnectionFails g files None

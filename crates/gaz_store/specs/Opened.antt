@@ -47,6 +47,8 @@ pub record IsOpened (old new : State) (register : List ℕ) (now : Seen) : Type 
 -- there a stop leaves what it could before
 pub record IsRefused {S : Type 0} (g : Ghosts S) (before after : Held S) : Type 0 where
   pub over : after.in_transaction ≡ false
+  -- where the disk is clean in the end, it was before
+  pub trust : HasCleanDisk (state g after) → HasCleanDisk (state g before)
   pub rests : HasCleanDisk (state g after) → Rests (state g before) (state g after)
   pub leaves : HasTables (state g before).now
       → Survives (state g before) (state g after) (λ _. ⊥)

@@ -197,6 +197,13 @@ module _ {S : Type 0} (g : Ghosts S) where
       leads (Refused refused) (Whole fine same) = unmoved (Refused refused) (Whole fine same) refl tt (stays_as refused)
       leads (Refused refused) (CutOff itself may) = unmoved (Refused refused) (CutOff itself may) refl tt (stays_as refused)
 
+  -- a disk that is clean behind a call was so before it
+  pub was_clean : {before after : Held S} → CameTo g before after → HasCleanDisk (state g after) → HasCleanDisk (state g before)
+  was_clean {before} {after} (Used register first commands responses is uses) clean = clean_before g before first.tables.conn uses.opened.opened.leaves (uses.trust clean)
+  was_clean {before} {after} (Grew register grown told is are extends) clean = clean_before g before extends.first.tables.conn extends.opened.opened.leaves (extends.trust clean)
+  was_clean {before} {after} (Moved register told migrates) clean = migrates.trust clean
+  was_clean {before} {after} (Refused refused) clean = refused.trust clean
+
   -- more files have what a call received too
   stays_more : {before after : Held S} → (came : CameTo g before after) (files bigger : Received) → HasAllOf bigger files → StaysIn g came files → StaysIn g came bigger
   stays_more (Used register first commands responses is uses) files bigger all stays = (stays.0, received_more commands responses files bigger all stays.1)

@@ -10,6 +10,7 @@ use Rattle.gaz_views.specs.View.{empty_view}
 use Rattle.gaz_kept.specs.Opening.{Tells, Untouched}
 use Rattle.gaz_kept.specs.OpeningFirst.{MayMove, TellsFirst, has_first}
 use Rattle.gaz_kept.proofs.Migrated.{migration_stands}
+use Rattle.gaz_kept.proofs.Moved.{clean_before}
 use Rattle.gaz_steps.specs.Hubs.{AreKnown, door_of, state_of}
 use Rattle.gaz_steps.specs.Standing.{IsPartial}
 use Rattle.gaz_steps.specs.Step.{HubState}
@@ -54,13 +55,14 @@ module _ {S : Type 0} (g : Ghosts S) (register : RegisterValue) (before : Held S
   pub migrates_opened : (store : Store S Brand g) (after : Held S) → store.tables.conn ≡ after
       → IsMoved (state g before) (state g store.tables.conn) (register_text register) (seen_in (register_text register) store)
       → Tells g before store.tables.conn (Ok tt) (register_text register) → TellsFirst g before store.tables.conn (Ok tt) (register_text register)
-      → (has_first (state g before).now.schema ≡ false → Untouched g before store.tables.conn)
+      → (has_first (state g before).now.schema ≡ false → Untouched g before store.tables.conn) → MayMove g before store.tables.conn (Ok tt) (register_text register)
       → (first : Bool) → first ≡ has_first (state g before).now.schema → MigratesOpened g register before after (told_of first)
-  migrates_opened store after back moved told told_first untouched first is =
+  migrates_opened store after back moved told told_first untouched leaves first is =
       subst (λ h. MigratesOpened g register before h (told_of first)) back (record {
         told_is = ap told_of is;
         of_store = told;
         of_first = told_first;
+        trust = clean_before (state g before) (state g store.tables.conn) _ _ leaves;
         current = λ e. untouched (subst (λ b. b ≡ false) is (not_first first e));
         becomes = λ fine has. moved.becomes fine has;
         moves = λ fine was. migrated_stands register (state g before).now (state g store.tables.conn).now was (moved.of_register fine was.kept.tables) (moved.becomes fine was.kept.tables);

@@ -80,6 +80,8 @@ module _ {S : Type 0} (g : Ghosts S) (register : RegisterValue) (before after : 
     -- the row of `meta` was of the register
     pub of_store : Tells g before after (Ok tt) (register_text register)
     pub of_first : TellsFirst g before after (Ok tt) (register_text register)
+    -- where the disk is clean in the end, it was before
+    pub trust : HasCleanDisk (state g after) → HasCleanDisk (state g before)
     -- a store is as it was
     pub current : told ≡ Current → Untouched g before after
     -- tables of schema 1 become those of a store, with the same rows, beside whatever is there

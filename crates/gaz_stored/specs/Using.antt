@@ -12,7 +12,7 @@ use Rattle.gaz_kept.specs.Opening.{Judges, Tells, Untouched, has_all}
 use Rattle.gaz_kept.specs.declared.refusal.StoreRefusal.{StoreRefusal}
 use Rattle.gaz_kept.specs.declared.refusal.StoreRefusal.TheVariants.{BadSchema}
 use Rattle.gaz_calls.specs.Seen.{IsUnharmed}
-use Rattle.gaz_store.specs.Opened.{IsOpened}
+use Rattle.gaz_store.specs.Opened.{IsOpened, IsRefused}
 use Rattle.gaz_store.specs.Store.{seen_in}
 use Rattle.gaz_store.specs.declared.store.Store.{Store}
 use Rattle.gaz_steps.specs.Step.{Command, Response}
@@ -81,8 +81,7 @@ module _ {S : Type 0} (g : Ghosts S) (register : RegisterValue) where
     pub back : last.tables.conn ≡ after
     pub uses : Uses first before after commands responses
 
-  -- why there is no store of this register, where that is told; the connection is outside a
-  -- transaction, and the database holds what it held
+  -- why there is no store of this register, where that is told; the database holds what it held
   pub record LacksStore {T : Type 0} (before after : Held S) (told : Result T StoreRefusal)
       : Type 0 where
     -- a table or a column is missing
@@ -90,5 +89,5 @@ module _ {S : Type 0} (g : Ghosts S) (register : RegisterValue) where
     -- what is told of the rows of `meta`
     pub rows : IfErr told (λ why. Tells g before after (Err why) (register_text register))
     pub judged : IfErr told (λ why. Judges g before after (Err why) (register_text register))
-    pub over : IfErr told (λ why. after.in_transaction ≡ false)
+    pub refused : IfErr told (λ why. IsRefused g before after)
     pub untouched : IfErr told (λ why. Untouched g before after)

@@ -2,15 +2,16 @@
 use Rattle.std.proofs.Common.{◌≡◌, ◌∙◌, ◌++◌, ℕ, Bool, true, false, List, [], ◌∷◌, map, Option, Some, None, Result, ap, refl, subst, sym}
 use Rattle.sqlite.specs.Effect.{Database}
 use Rattle.sqlite.specs.Files.{file_state, over_files}
+use Rattle.sqlite.specs.Held.{Held}
 use Rattle.sqlite_disk.specs.declared.Disk as disk
 use Rattle.sqlite_disk.specs.declared.Files.{Files}
+use Rattle.sqlite_store.specs.declared.store.FileStore.{FileStore}
 use Rattle.gaz_register.specs.Registers.{IsRegister, RegisterValue}
 use Rattle.gaz_calls.specs.Seen.{IsUnharmed}
-use Rattle.gaz_steps.specs.Step.{new_hub}
 use Rattle.gaz_exchange.specs.Conversing.{Transfer}
 use Rattle.gaz_stored.specs.Calls as stored
 use Rattle.gaz_stored.specs.Meetings.{Meeting}
-use Rattle.gaz_stored.specs.Runs.{GoesOn, IsStoreOf}
+use Rattle.gaz_stored.specs.Runs.{IsStoreOf}
 use Rattle.gaz_stored.proofs.Calling as calling
 use Rattle.gaz_words.specs.Words.{asks_play}
 use Rattle.gaz_words.specs.declared.command.Command.{Command}
@@ -22,7 +23,7 @@ use Rattle.gaz_filing.specs.Joined as joined
 use Rattle.gaz_filing.specs.Joined.{FileCall, came_over}
 use Rattle.gazhub.specs.Openings.{Opening, opened_at_words, opened_by_command, opened_by_meaning, opened_by_serving, opened_by_serving_once, opened_by_serving_rest, opened_before, opened_by_words, with_files, with_register}
 use Rattle.gazhub.specs.Serving.{All, AreLeft, Begins, Fewer, NeverBegins, NeverTold, NoMore, ServeComesTo, ServesOnce, ServesRest, Untold, Whole}
-use Rattle.gazhub.specs.Sessions.{AllEndedWhole, AreCalls, AreGivenInTurn, AreLinked, AreOneRun, BeginAt, EndOpen, Given, IsCall, KeepsFiles, MakesFirst, SessionsAreOne, opening_for, openings_in}
+use Rattle.gazhub.specs.Sessions.{AllEndedWhole, AreCalls, AreGivenInTurn, AreLinked, AreOneRun, EndOpen, Given, IsCall, KeepsFiles, SessionsAreOne, closed_by, found_by, opening_for, openings_in}
 use Rattle.gazhub.specs.Sites.{Closed, Deed, Does, HasFiles, HasRegister, Met, NoFiles, NoRegister, WithFiles, WithRegister}
 use Rattle.gazhub.specs.declared.ending.Ending.{Ending}
 use Rattle.gazhub.specs.declared.files.NoHub.{NoHub}
@@ -116,78 +117,94 @@ module _ {D : Type 0} (g : disk.Ghosts D) where
 
   -- ---- calls over the files, one after another
 
+  -- where files were given back to the next call, or it was the last, no failure had shut a connection
+  unharmed_then : (old : Held (FileStore D g)) (left has : Option (Files D)) (later : List (Opening g)) → Closes g old left → AreLinked g left later has → (calls : AreCalls g later) → EndOpen g old later calls → IsUnharmed (file_state old)
+  unharmed_then old left has [] closes links calls ends = ends
+  unharmed_then old left has (next ∷ later) closes links calls ends =
+      let over = came_over g calls.0.call in
+      let fine = unharmed_then over.after next.left has later over.closes links.1 calls.1 ends in
+      was_unharmed g old over.conn next.files (subst (Closes g old) links.0 closes) over.connects (calling.was_clean (over_files {D = D} {g = g}) over.does fine.clean)
+
   -- a call, behind which is found what its connection shows
-  abbrev whole_call : (opening : Opening g) → (it : IsCall g opening) → IsUnharmed (file_state (came_over g it.call).after) → FileCall g
+  abbrev whole_call : (opening : Opening g) → (it : IsCall g opening) → IsUnharmed (file_state (closed_by g it)) → FileCall g
   whole_call opening it fine = record {
     files = opening.files;
     left = opening.left;
     call = it.call;
-    found = (file_state (came_over g it.call).after).now;
+    found = (file_state (closed_by g it)).now;
     is_found = stored.Whole fine refl;
   }
 
-  -- whoever gave files back had a connection that no failure had shut
-  first_unharmed : (opening : Opening g) (later : List (Opening g)) (has : Option (Files D)) (calls : AreCalls g (opening ∷ later)) → EndOpen g (opening ∷ later) calls → AreLinked g opening.left later has
-      → IsUnharmed (file_state (came_over g calls.0.call).after)
-  first_unharmed opening [] has calls ends links = ends
-  first_unharmed opening (next ∷ later) has calls ends links =
-      let old = came_over g calls.0.call in
-      let over = came_over g calls.1.0.call in
-      was_unharmed g old.after over.conn next.files (subst (Closes g old.after) links.0 old.closes) over.connects calls.1.0.clean
+  -- behind a connection, whose files were given back
+  abbrev calls_in : (old : Held (FileStore D g)) (had has : Option (Files D)) (openings : List (Opening g)) → AreLinked g had openings has → (calls : AreCalls g openings) → EndOpen g old openings calls → List (FileCall g)
+  calls_in old had has [] links calls ends = []
+  calls_in old had has (opening ∷ later) links calls ends =
+      let over = came_over g calls.0.call in
+      whole_call opening calls.0 (unharmed_then over.after opening.left has later over.closes links.1 calls.1 ends) ∷ calls_in over.after opening.left has later links.1 calls.1 ends
 
-  abbrev later_open : (opening : Opening g) (later : List (Opening g)) (calls : AreCalls g (opening ∷ later)) → EndOpen g (opening ∷ later) calls → EndOpen g later calls.1
-  later_open opening [] calls ends = tt
-  later_open opening (next ∷ later) calls ends = ends
-
-  abbrev calls_in : (had has : Option (Files D)) (openings : List (Opening g)) (calls : AreCalls g openings) → EndOpen g openings calls → AreLinked g had openings has → List (FileCall g)
-  calls_in had has [] calls ends links = []
-  calls_in had has (opening ∷ later) calls ends links =
-      whole_call opening calls.0 (first_unharmed opening later has calls ends links.1) ∷ calls_in opening.left has later calls.1 (later_open opening later calls ends) links.1
-
-  they_are : (had has : Option (Files D)) (openings : List (Opening g)) (calls : AreCalls g openings) (ends : EndOpen g openings calls) (links : AreLinked g had openings has) → openings ≡ map (opening_for g) (calls_in had has openings calls ends links)
-  they_are had has [] calls ends links = refl
-  they_are had has (opening ∷ later) calls ends links =
-      let rest = they_are opening.left has later calls.1 (later_open opening later calls ends) links.1 in
+  they_are : (old : Held (FileStore D g)) (had has : Option (Files D)) (openings : List (Opening g)) (links : AreLinked g had openings has) (calls : AreCalls g openings) (ends : EndOpen g old openings calls)
+      → openings ≡ map (opening_for g) (calls_in old had has openings links calls ends)
+  they_are old had has [] links calls ends = refl
+  they_are old had has (opening ∷ later) links calls ends =
+      let rest = they_are (closed_by g calls.0) opening.left has later links.1 calls.1 ends in
       λ i. record { files = opening.files; left = opening.left; over = calls.0.is_it i } ∷ rest i
 
-  all_whole : (had has : Option (Files D)) (openings : List (Opening g)) (calls : AreCalls g openings) (ends : EndOpen g openings calls) (links : AreLinked g had openings has) → AllEndedWhole g (calls_in had has openings calls ends links)
-  all_whole had has [] calls ends links = tt
-  all_whole had has (opening ∷ later) calls ends links = (tt, all_whole opening.left has later calls.1 (later_open opening later calls ends) links.1)
+  all_whole : (old : Held (FileStore D g)) (had has : Option (Files D)) (openings : List (Opening g)) (links : AreLinked g had openings has) (calls : AreCalls g openings) (ends : EndOpen g old openings calls) → AllEndedWhole g (calls_in old had has openings links calls ends)
+  all_whole old had has [] links calls ends = tt
+  all_whole old had has (opening ∷ later) links calls ends = (tt, all_whole (closed_by g calls.0) opening.left has later links.1 calls.1 ends)
 
-  follow_on : (opening : Opening g) (later : List (Opening g)) (has : Option (Files D)) (calls : AreCalls g (opening ∷ later)) (ends : EndOpen g (opening ∷ later) calls) (links : AreLinked g opening.left later has)
-      → joined.FollowOn g (whole_call opening calls.0 (first_unharmed opening later has calls ends links)) (calls_in opening.left has later calls.1 (later_open opening later calls ends) links)
-  follow_on opening [] has calls ends links = tt
-  follow_on opening (next ∷ later) has calls ends links = ((links.0, calls.1.0.clean), follow_on next later has calls.1 ends links.1)
+  follow_on : (opening : Opening g) (it : IsCall g opening) (fine : IsUnharmed (file_state (closed_by g it))) (has : Option (Files D)) (later : List (Opening g)) (links : AreLinked g opening.left later has) (calls : AreCalls g later) (ends : EndOpen g (closed_by g it) later calls)
+      → joined.FollowOn g (whole_call opening it fine) (calls_in (closed_by g it) opening.left has later links calls ends)
+  follow_on opening it fine has [] links calls ends = tt
+  follow_on opening it fine has (next ∷ later) links calls ends =
+      let over = came_over g calls.0.call in
+      (links.0, follow_on next calls.0 (unharmed_then over.after next.left has later over.closes links.1 calls.1 ends) has later links.1 calls.1 ends)
 
-  one_run : (register : RegisterValue) (db : Database) (had has : Option (Files D)) (openings : List (Opening g)) → IsRegister register → IsStoreOf register db → (links : AreLinked g had openings has) → (calls : AreCalls g openings)
-      → (ends : EndOpen g openings calls) → BeginAt g db openings calls → joined.AreOne g register db (calls_in had has openings calls ends links)
-  one_run register db had has [] is store links calls ends begins = calling.calls_are_one (over_files {D = D} {g = g}) register db [] is store tt
-  one_run register db had has (first ∷ later) is store links calls ends begins =
-      let all = calls_in had has (first ∷ later) calls ends links in
-      subst (λ db. joined.AreOne g register db all) begins
-      ((joining.calls_are_one g).opened register (whole_call first calls.0 (first_unharmed first later has calls ends links.1)) (calls_in first.left has later calls.1 (later_open first later calls ends) links.1) is
-      (subst (IsStoreOf register) (sym begins) store) (follow_on first later has calls ends links.1))
+  ran : (register : RegisterValue) (db : Database) (old : Held (FileStore D g)) (had has : Option (Files D)) (openings : List (Opening g)) (links : AreLinked g had openings has) (calls : AreCalls g openings) (ends : EndOpen g old openings calls)
+      → joined.AreOne g register db (calls_in old had has openings links calls ends) → AreOneRun g register db openings
+  ran register db old had has openings links calls ends one =
+      record { calls = calls_in old had has openings links calls ends; are = they_are old had has openings links calls ends; whole = all_whole old had has openings links calls ends; one = one }
 
-  behind : (register : RegisterValue) (first : Opening g) (later : List (Opening g)) (has : Option (Files D)) → (made : MakesFirst g register first) → (links : AreLinked g first.left later has) → (calls : AreCalls g later) → (ends : EndOpen g later calls)
-      → GoesOn register new_hub [] [] (file_state made.over.after).now → joined.AreOne g register (file_state made.over.after).now (calls_in first.left has later calls ends links)
-  behind register first [] has made links calls ends alone = calling.calls_are_one (over_files {D = D} {g = g}) register (file_state made.over.after).now [] made.is alone.store tt
-  behind register first (next ∷ later) has made links calls ends alone =
-      (joining.calls_are_one g).behind register made.over.after first.left (whole_call next calls.0 (first_unharmed next later has calls ends links.1)) (calls_in next.left has later calls.1 (later_open next later calls ends) links.1)
-      made.is alone.store made.over.closes (links.0, calls.0.clean) (follow_on next later has calls ends links.1)
+  -- over the store that the first finds
+  one_run : (register : RegisterValue) (had has : Option (Files D)) (first : Opening g) (later : List (Opening g)) → (links : AreLinked g had (first ∷ later) has) → (it : IsCall g first) → (calls : AreCalls g later) → (ends : EndOpen g (closed_by g it) later calls)
+      → IsRegister register → IsStoreOf register (found_by g it) → AreOneRun g register (found_by g it) (first ∷ later)
+  one_run register had has first later links it calls ends is store =
+      let over = came_over g it.call in
+      let fine = unharmed_then over.after first.left has later over.closes links.1 calls ends in
+      ran register (found_by g it) over.conn had has (first ∷ later) links (it, calls) ends
+      ((joining.calls_are_one g).opened register (whole_call first it fine) (calls_in over.after first.left has later links.1 calls ends) is store (follow_on first it fine has later links.1 calls ends))
 
-  ran : (register : RegisterValue) (db : Database) (had has : Option (Files D)) (openings : List (Opening g)) (links : AreLinked g had openings has) (calls : AreCalls g openings) (ends : EndOpen g openings calls)
-      → joined.AreOne g register db (calls_in had has openings calls ends links) → AreOneRun g register db openings
-  ran register db had has openings links calls ends one =
-      record { calls = calls_in had has openings calls ends links; are = they_are had has openings calls ends links; whole = all_whole had has openings calls ends links; one = one }
+  -- behind a connection that was closed over a store
+  behind : (register : RegisterValue) (old : Held (FileStore D g)) (left has : Option (Files D)) (later : List (Opening g)) → Closes g old left → (links : AreLinked g left later has) → (calls : AreCalls g later) → (ends : EndOpen g old later calls)
+      → IsRegister register → IsStoreOf register (file_state old).now → joined.AreOne g register (file_state old).now (calls_in old left has later links calls ends)
+  behind register old left has [] closes links calls ends is store = calling.calls_are_one (over_files {D = D} {g = g}) register (file_state old).now [] is store tt
+  behind register old left has (next ∷ later) closes links calls ends is store =
+      let over = came_over g calls.0.call in
+      let fine = unharmed_then over.after next.left has later over.closes links.1 calls.1 ends in
+      (joining.calls_are_one g).behind register old left (whole_call next calls.0 fine) (calls_in over.after next.left has later links.1 calls.1 ends) is store closes links.0 (follow_on next calls.0 fine has later links.1 calls.1 ends)
+
+  one_behind : (register : RegisterValue) (old : Held (FileStore D g)) (left has : Option (Files D)) (later : List (Opening g)) → Closes g old left → AreLinked g left later has → (calls : AreCalls g later) → EndOpen g old later calls
+      → IsRegister register → IsStoreOf register (file_state old).now → AreOneRun g register (file_state old).now later
+  one_behind register old left has later closes links calls ends is store =
+      ran register (file_state old).now old left has later links calls ends (behind register old left has later closes links calls ends is store)
 
   pub sessions_are_one : {S : Type 0} (done : S → Deed D → S → Type 0) (text : List ℕ) (most : ℕ) → SessionsAreOne g done text most
   sessions_are_one done text most files before after given keeps follow =
       let links = linked done files keeps text most before after given follow in
       record {
         linked = links;
-        opened = λ register db is store calls ends begins. ran register db (files before) (files after) _ links calls ends (one_run register db (files before) (files after) _ is store links calls ends begins);
-        made = λ register first later split made calls ends.
-            let alone = (joining.calls_are_one g).made register first.files first.left made.over.conn made.over.after made.over.does made.room made.clean in
+        opened = λ register first later split it calls ends is store.
+            one_run register (files before) (files after) first later (subst (λ all. AreLinked g (files before) all (files after)) split links) it calls ends is store;
+        made = λ register first later split makes calls ends.
+            let over = makes.over in
             let rest = (subst (λ all. AreLinked g (files before) all (files after)) split links).1 in
-            (alone, ran register (file_state made.over.after).now first.left (files after) later rest calls ends (behind register first later (files after) made rest calls ends alone));
+            let fine = unharmed_then over.after first.left (files after) later over.closes rest calls ends in
+            let alone = (joining.calls_are_one g).made register first.files first.left over.conn over.after over.does makes.room fine.clean in
+            (alone, one_behind register over.after first.left (files after) later over.closes rest calls ends makes.is alone.store);
+        moved = λ register first later split moves calls ends.
+            let over = moves.over in
+            let rest = (subst (λ all. AreLinked g (files before) all (files after)) split links).1 in
+            let fine = unharmed_then over.after first.left (files after) later over.closes rest calls ends in
+            let stands = over.does.0.moves fine moves.stood in
+            (stands, one_behind register over.after first.left (files after) later over.closes rest calls ends moves.is stands.store);
       }

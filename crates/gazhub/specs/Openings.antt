@@ -59,8 +59,7 @@ module _ {D : Type 0} (g : disk.Ghosts D) where
   -- so it is where there is none of the register
   abbrev pub opens_none : {files : Files D} {left : Option (Files D)} (register : RegisterValue)
       (refusal : StoreRefusal) → OpensNone g files left register refusal → DoneOver files left
-  opens_none register refusal = declined (λ conn after it.
-      record { over = it.over; rests = it.untouched.rests; leaves = λ tables. it.untouched.leaves })
+  opens_none register refusal = declined (λ conn after it. it.refused)
 
   -- what was to be done, or why there was no store
   abbrev pub over_in : {T : Type 0} {files : Files D} {left : Option (Files D)} {Does : T → Type 0}

@@ -3,17 +3,20 @@
 use Rattle.std.specs.Prelude.{◌≡◌, ⊤, ◌++◌, ℕ, Bool, List, [], ◌∷◌, map, Option, Some}
 use Rattle.sqlite.specs.Effect.{Database}
 use Rattle.sqlite.specs.Files.{file_state}
-use Rattle.sqlite.specs.State.{HasCleanDisk}
+use Rattle.sqlite.specs.Held.{Held}
 use Rattle.sqlite_disk.specs.declared.Disk as disk
 use Rattle.sqlite_disk.specs.declared.Files.{Files}
+use Rattle.sqlite_store.specs.declared.store.FileStore.{FileStore}
 use Rattle.gaz_register.specs.Registers.{IsRegister, RegisterValue}
 use Rattle.gaz_tables.specs.Creating.{HasRoom}
 use Rattle.gaz_calls.specs.Seen.{IsUnharmed}
 use Rattle.gaz_steps.specs.Step.{new_hub}
 use Rattle.gaz_exchange.specs.Conversing.{Transfer}
+use Rattle.gaz_stored.specs.Migrating.{FirstStandForRun, StandsMoved}
 use Rattle.gaz_stored.specs.Runs.{GoesOn, IsStoreOf}
-use Rattle.gaz_filing.specs.Filing.{Makes, OverFiles}
-use Rattle.gaz_filing.specs.Joined.{AreOne, CallOver, FileCall, EndedWhole, came_over}
+use Rattle.gaz_stored.specs.declared.migrating.Migration.{Migration}
+use Rattle.gaz_filing.specs.Filing.{Makes, MigratesStore, OverFiles}
+use Rattle.gaz_filing.specs.Joined.{AreOne, CallOver, EndedWhole, FileCall, Migrated, came_over}
 use Rattle.gazhub.specs.Commands.{Commands}
 use Rattle.gazhub.specs.Openings.{Called, MadeStore, Opening, opened_by_words}
 use Rattle.gazhub.specs.Sites.{Closed, Deed, Opened}
@@ -41,26 +44,28 @@ module _ {D : Type 0} (g : disk.Ghosts D) where
 
   -- ---- what was done over the files they opened
 
-  -- it was a call, on a disk that returned what was written
+  -- it was a call
   pub record IsCall (opening : Opening g) : Type 0 where
     pub call : CallOver g opening.files opening.left
     pub is_it : opening.over ≡ Called call
-    pub clean : HasCleanDisk (file_state (came_over g call).conn)
 
   abbrev pub AreCalls : List (Opening g) → Type 0
   AreCalls [] = ⊤
   AreCalls (opening ∷ later) = IsCall opening × AreCalls later
 
-  -- the first of them finds this database
-  abbrev pub BeginAt : Database → (openings : List (Opening g)) → AreCalls openings → Type 0
-  BeginAt db [] calls = ⊤
-  BeginAt db (opening ∷ later) calls = (file_state (came_over g calls.0.call).conn).now ≡ db
+  -- the database that a call found
+  abbrev pub found_by : {opening : Opening g} → IsCall opening → Database
+  found_by is = (file_state (came_over g is.call).conn).now
 
-  -- no failure shut the connection of the last
-  abbrev pub EndOpen : (openings : List (Opening g)) → AreCalls openings → Type 0
-  EndOpen [] calls = ⊤
-  EndOpen (opening ∷ []) calls = IsUnharmed (file_state (came_over g calls.0.call).after)
-  EndOpen (opening ∷ next ∷ later) calls = EndOpen (next ∷ later) calls.1
+  -- the connection that it closed
+  abbrev pub closed_by : {opening : Opening g} → IsCall opening → Held (FileStore D g)
+  closed_by is = (came_over g is.call).after
+
+  -- no failure shut the connection of the last of them; where there is none, this one
+  abbrev pub EndOpen : Held (FileStore D g) → (openings : List (Opening g)) → AreCalls openings
+      → Type 0
+  EndOpen closed [] calls = IsUnharmed (file_state closed)
+  EndOpen closed (opening ∷ later) calls = EndOpen (closed_by calls.0) later calls.1
 
   -- the opening in which a call is made
   abbrev pub opening_for : FileCall g → Opening g
@@ -79,15 +84,23 @@ module _ {D : Type 0} (g : disk.Ghosts D) where
     pub whole : AllEndedWhole calls
     pub one : AreOne g register db calls
 
-  -- a store of the register was made, where there was room for one, on a disk that returned what
-  -- was written
+  -- ---- what the first of them did
+
+  -- a store of the register was made, where there was room for one
   pub record MakesFirst (register : RegisterValue) (opening : Opening g) : Type 0 where
     pub is : IsRegister register
     pub over : OverFiles g opening.files opening.left
         (Makes g opening.files opening.left register)
     pub is_it : opening.over ≡ MadeStore register is over
     pub room : HasRoom (file_state over.conn).now.schema
-    pub clean : HasCleanDisk (file_state over.after)
+
+  -- tables of schema 1, which stood for a partial run, were migrated to a store of the register
+  pub record MovesFirst (register : RegisterValue) (opening : Opening g) : Type 0 where
+    pub is : IsRegister register
+    pub told : Migration
+    pub over : MigratesStore g opening.files opening.left register told
+    pub is_it : opening.over ≡ Called (Migrated register told over)
+    pub stood : FirstStandForRun register (file_state over.conn).now
 
   -- ---- commands
 
@@ -125,17 +138,25 @@ module _ {D : Type 0} (g : disk.Ghosts D) where
         : Type 0 where
       -- each opening finds what the one before gave back
       pub linked : AreLinked (files before) (openings_in given) (files after)
-      -- over the store that the first of them finds they are one run of one hub
-      pub opened : (register : RegisterValue) (db : Database)
-          → IsRegister register → IsStoreOf register db
-          → (calls : AreCalls (openings_in given)) → EndOpen (openings_in given) calls
-          → BeginAt db (openings_in given) calls → AreOneRun register db (openings_in given)
-      -- so are those behind a first one that made a store, which is of a hub that was asked nothing
+      -- where the first finds a store, they are one run of one hub over it
+      pub opened : (register : RegisterValue) (first : Opening g) (later : List (Opening g))
+          → openings_in given ≡ first ∷ later → (is : IsCall first) → (calls : AreCalls later)
+          → EndOpen (closed_by is) later calls
+          → IsRegister register → IsStoreOf register (found_by is)
+          → AreOneRun register (found_by is) (first ∷ later)
+      -- where it makes one, of a hub that was asked nothing, those behind it are
       pub made : (register : RegisterValue) (first : Opening g) (later : List (Opening g))
-          → openings_in given ≡ first ∷ later → (made : MakesFirst register first)
-          → (calls : AreCalls later) → EndOpen later calls
-          → GoesOn register new_hub [] [] (file_state made.over.after).now
-          × AreOneRun register (file_state made.over.after).now later
+          → openings_in given ≡ first ∷ later → (makes : MakesFirst register first)
+          → (calls : AreCalls later) → EndOpen makes.over.after later calls
+          → GoesOn register new_hub [] [] (file_state makes.over.after).now
+          × AreOneRun register (file_state makes.over.after).now later
+      -- and so are those behind one that migrates one, of the hub that its tables stood for
+      pub moved : (register : RegisterValue) (first : Opening g) (later : List (Opening g))
+          → openings_in given ≡ first ∷ later → (moves : MovesFirst register first)
+          → (calls : AreCalls later) → EndOpen moves.over.after later calls
+          → StandsMoved register (file_state moves.over.conn).now
+          (file_state moves.over.after).now
+          × AreOneRun register (file_state moves.over.after).now later
 
     -- at a site that keeps a store's files
     abbrev pub SessionsAreOne : Type 0

@@ -1,17 +1,26 @@
 -- Worked examples on commands that are given one after another.
 use Rattle.std.specs.Prelude.{◌≡◌, ℕ, Bool, List, [], ◌∷◌, Option, Some, None, Result}
 use Rattle.std.specs.Prelude.{Err, refl}
+use Rattle.sqlite.specs.Files.{file_state, over_files}
+use Rattle.sqlite.specs.Held.{Held}
 use Rattle.sqlite_disk.specs.declared.Disk as disk
 use Rattle.sqlite_disk.specs.declared.Files.{Files}
+use Rattle.sqlite_store.specs.declared.store.FileStore.{FileStore}
+use Rattle.gaz_register.specs.Registers.{IsRegister, RegisterValue}
+use Rattle.gaz_kept.specs.declared.refusal.StoreRefusal.TheVariants.{Fault}
+use Rattle.gaz_calls.specs.Seen.{IsUnharmed}
+use Rattle.gaz_store.specs.Opened.{IsRefused}
 use Rattle.gaz_exchange.specs.Conversing.{Transfer}
 use Rattle.gaz_commands.specs.declared.said.Said.{Said}
-use Rattle.gaz_kept.specs.declared.refusal.StoreRefusal.TheVariants.{Fault}
 use Rattle.gaz_stored.specs.Meetings.{Meeting}
+use Rattle.gaz_filing.specs.Filing.{FailsToConnect, Makes, OverFiles}
+use Rattle.gaz_filing.specs.Joined.{Declined}
 use Rattle.gazhub.specs.Commands.{Ends}
 use Rattle.gazhub.specs.Desks.{IsDone}
-use Rattle.gazhub.specs.Openings.{Opening, opened_by_words}
+use Rattle.gazhub.specs.Openings.{Called, DoneOver, MadeStore, Opening, Unconnected}
+use Rattle.gazhub.specs.Openings.{opened_by_words}
 use Rattle.gazhub.specs.Openings as openings
-use Rattle.gazhub.specs.Sessions.{AreLinked, IsLeftBy, KeepsFiles}
+use Rattle.gazhub.specs.Sessions.{AreLinked, EndOpen, IsCall, IsLeftBy, KeepsFiles}
 use Rattle.gazhub.specs.Sites.{Closed, Deed, HasFiles, Listened, Met, NoFiles, Opened, Read}
 use Rattle.gazhub.specs.Sites.{WithFiles}
 use Rattle.gazhub.specs.declared.ending.Ending.{Ending}
@@ -30,6 +39,18 @@ module _ {S D : Type 0} (done : S → Deed D → S → Type 0) (g : disk.Ghosts 
       → WithFiles done path purpose (λ files before after told. Opening g) before after told
       → List (Opening g)
   opened_at path purpose before after told = openings.with_files g done (λ files between it. it)
+
+  -- files were opened and given back as they were, and this was done over them
+  abbrev pub opening_of : (files : Files D) → DoneOver g files (Some files) → Opening g
+  opening_of files over = record { files = files; left = Some files; over = over }
+
+  -- a call that was refused
+  module _ (files : Files D) (over : OverFiles g files (Some files) (IsRefused over_files)) where
+    abbrev pub in_vain : Opening g
+    in_vain = opening_of files (Called (Declined over))
+
+    abbrev pub is_call : IsCall g in_vain
+    is_call = record { call = Declined over; is_it = refl }
 
   pub record WorkedSessions : Type 0 where
     -- where its files are found they are gone from there, until they are closed
@@ -77,3 +98,17 @@ module _ {S D : Type 0} (done : S → Deed D → S → Type 0) (g : disk.Ghosts 
         → AreLinked g (Some files) (one ∷ other ∷ []) other.left
     pub not_again : (files : Files D) (one other : Opening g) (has : Option (Files D))
         → one.left ≡ None → ¬ AreLinked g (Some files) (one ∷ other ∷ []) has
+    -- a call that was refused is a call, and no other opening is
+    pub called : (files : Files D) (over : OverFiles g files (Some files) (IsRefused over_files))
+        → IsCall g (in_vain files over)
+    pub making : (register : RegisterValue) (is : IsRegister register) (files : Files D)
+        (over : OverFiles g files (Some files) (Makes g files (Some files) register))
+        → ¬ IsCall g (opening_of files (MadeStore register is over))
+    pub unconnected : (files : Files D) (fails : FailsToConnect g files files)
+        → ¬ IsCall g (opening_of files (Unconnected fails))
+    -- of two that were refused the connection of the second tells alone
+    pub ended : (files : Files D)
+        (one other : OverFiles g files (Some files) (IsRefused over_files))
+        (before : Held (FileStore D g)) → IsUnharmed (file_state other.after)
+        → EndOpen g before (in_vain files one ∷ in_vain files other ∷ [])
+        (is_call files one, is_call files other, tt)

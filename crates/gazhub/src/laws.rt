@@ -12,9 +12,9 @@ use sqlite_disk::Disk;
 
 /// Commands one after another, as `command` says of each, at a site that keeps a store's files:
 /// over these they are one run of one hub, whatever their words and however often each of them
-/// opened the files. They begin with a store that is there or that the first opening makes; each
-/// opening is a call, on a disk that returns what was written, and no failure shuts the connection
-/// of the last. A command that a stop cuts off is none of them.
+/// opened the files. They begin with a store that is there, or that the first opening makes or
+/// migrates; each opening has its connection, and no failure shuts that of the last. A command that
+/// a stop cuts off is none of them.
 pub fn sessions_are_one<S: Site>()
     ensures { (text : List ℕ) (most : ℕ) → SessionsAreOne S.Medium.Disk S.done text most }
 {}

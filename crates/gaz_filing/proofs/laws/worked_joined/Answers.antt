@@ -5,10 +5,8 @@ use Rattle.gaz_filing.proofs.laws.worked_joined.Goals as goal
 pub returns : goal.returns
 returns g c = record {
   none = λ call. tt;
-  twice = λ files over fine clean. ((refl, clean), tt);
-  refused = λ register refusal conn back lacks. record { over = lacks.over; rests = lacks.untouched.rests; leaves = λ tables. lacks.untouched.leaves };
-  not_migrated = λ register refusal conn back lacks. lacks.0.refused;
+  twice = λ files over fine. (refl, tt);
   left_alone = λ files. record { rest = left.Files files; are = refl; unharmed = λ clean image may. may };
   kept_back = λ files fails. fails;
-  lost = λ call given. let none = given.0 in cc;
+  lost = λ call given. absurd (cc);
 }

@@ -1,6 +1,7 @@
 use Rattle.std.proofs.Common.{◌∙◌, ℕ, List, Option, Some, None, ap, refl, sym}
 use Rattle.sqlite_disk.specs.declared.Files.{Files}
 use Rattle.gaz_stored.specs.Meetings.{Came, Left, Missed}
+use Rattle.gaz_filing.specs.Joined.{Declined}
 use Rattle.gazhub.specs.Desks.{IsDone}
 use Rattle.gazhub.specs.Sessions.{IsLeftBy}
 use Rattle.gazhub.specs.Sites.{Closed, Deed, Listened, Met, Opened, Read}
@@ -36,4 +37,8 @@ returns g c = record {
   unread = λ text most random before after through ending ends. refl;
   again = λ files left one other first back second. (ap Some (sym first), (back ∙ ap Some (sym second), refl));
   not_again = λ files one other has none links. absurd (let there = links.1.0 in cc);
+  called = λ files over. record { call = Declined over; is_it = refl };
+  making = λ register is files over it. let same = it.is_it in absurd (cc);
+  unconnected = λ files fails it. let same = it.is_it in absurd (cc);
+  ended = λ files one other before fine. fine;
 }
