@@ -140,9 +140,9 @@ fn breach_of<K: Shelf>(
 }
 
 /// The least end rule that the key of an item breaks, 30 to 39 (our profile), in the view that is
-/// judged, where what is known is right of it and of the views that the bases name. A key that broke
-/// none isn't asked again. What is known stays right as long as no rule is broken; after a fault,
-/// `Memory` or `Store`, nothing is said of it.
+/// judged, where what is known is right of it and of the views that the bases name. A key that
+/// broke none isn't asked again. What is known stays right as long as no rule is broken; after a
+/// fault, `Memory` or `Store`, nothing is said of it.
 pub fn breach<K: Shelf>(
     keeper: &mut K,
     code: Code,

@@ -8,8 +8,8 @@ pub fn worked_examples()
     ensures { WorkedEndRules }
 {}
 
-/// The tests of the end rules but rule 36, and of where a street is found, are true just where their
-/// sentences hold.
+/// The tests of the end rules but rule 36, and of where a street is found, are true just where
+/// their sentences hold.
 pub fn tests_say()
     ensures ends { TestsSay }
 {}

@@ -1,5 +1,5 @@
-//! Which end rules the key of an item breaks, over any keeper: those that are asked of the items of a
-//! file behind its last record.
+//! Which end rules the key of an item breaks, over any keeper: those that are asked of the items
+//! of a file behind its last record.
 #![tactic(auto)]
 
 mod blpu_faults;

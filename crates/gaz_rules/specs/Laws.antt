@@ -7,8 +7,7 @@ use Rattle.gaz_register.specs.Registers.{within}
 use Rattle.gaz_views.specs.View.{View, empty_view}
 use Rattle.gaz_keeper.specs.Board.{Board, adds, empty_board}
 use Rattle.gaz_end_rules.specs.EndRules.{is_apart, is_untied}
-use Rattle.gaz_rules.specs.Judging.{judge}
-use Rattle.gaz_rules.specs.Judging.{judged_on}
+use Rattle.gaz_rules.specs.Judging.{judge, judged_on}
 use Rattle.gaz_rules.specs.Sound.{AllHoldOwn, AreDisjoint, AreSoundBases, HoldsOwn, IsSound}
 use Rattle.gaz_rules.specs.Sound.{IsSoundBoard, NamesOthers}
 

@@ -11,8 +11,7 @@ use Rattle.gaz_changefile.specs.Reading.{Reading, reading}
 use Rattle.gaz_keeper.specs.Board.{Judgement, Board, empty_board, reached}
 use Rattle.gaz_register.specs.Registers.{Owners}
 use Rattle.gaz_end_rules.specs.Bases.{are_reached}
-use Rattle.gaz_rules.specs.Judging.{judged_on}
-use Rattle.gaz_rules.specs.Judging.{bases_of}
+use Rattle.gaz_rules.specs.Judging.{bases_of, judged_on}
 use Rattle.gaz_keeper.specs.Received.{HasAllOf, Received}
 
 -- ---- judging
