@@ -11,11 +11,11 @@ use Rattle.gaz_keeper.proofs.Pairs.{pairs_exact, pairs_total}
 use Rattle.gaz_sql_facts.proofs.Lists.{has_permuted, permuted_has}
 use Rattle.gaz_tables.specs.Receiveds.{FindsFile, bytes_of, file_shown}
 use Rattle.gaz_answers.specs.Answers.{SaysBytes}
+use Rattle.gaz_row_items.specs.Versions.{number_in}
+use Rattle.gaz_row_items.proofs.Pairs.{at_one}
 use Rattle.gaz_kept.specs.Files.{bytes_in, custodian_in, file_in, files_in, volume_in}
 use Rattle.gaz_kept.specs.Judging.{AreFiles}
-use Rattle.gaz_kept.specs.Versions.{number_in}
 use Rattle.gaz_kept.proofs.Judging.{single_files}
-use Rattle.gaz_kept.proofs.Pairs.{at_one}
 use Rattle.gaz_kept.proofs.Stands.{row_of}
 
 module _ (c v : ℕ) (rows answer : List Row) (are : AreFiles rows) (found : FindsFile c v rows answer) where

@@ -27,8 +27,8 @@ use Rattle.gaz_tables.specs.Schema.{version2}
 use Rattle.gaz_tables.specs.Shows.{ShowsPage}
 use Rattle.gaz_tables.specs.Versions.{id_place}
 use Rattle.gaz_tables.specs.Tables.{rows_of}
+use Rattle.gaz_row_items.specs.Versions.{history_in, view_in}
 use Rattle.gaz_kept.specs.Kept.{IsKept}
-use Rattle.gaz_kept.specs.Versions.{history_in, view_in}
 use Rattle.gaz_answers.proofs.Holding.{HoldsItem, by_rows, entry_in_view, entry_of, one_row, row_of, said_entry, said_history}
 use Rattle.gaz_kept.proofs.Sorted.{same_sorted, sorted_filter, sorted_from, taken_read}
 use Rattle.gaz_kept.proofs.RowsRead.{read_from, read_in, some_same}

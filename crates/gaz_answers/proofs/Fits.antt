@@ -33,10 +33,10 @@ use Rattle.gaz_tables.specs.Schema.{received, version2}
 use Rattle.gaz_tables.specs.Versions as table
 use Rattle.gaz_tables.specs.Versions.{IsApprovedOn, IsBehind, IsHolding, IsPartOf}
 use Rattle.gaz_tables.specs.Tables.{rows_of}
+use Rattle.gaz_row_items.specs.Versions.{history_in, item_in, living, number_in}
 use Rattle.gaz_kept.specs.Files.{reached_in}
 use Rattle.gaz_kept.specs.Kept.{IsKept, IsVersion}
 use Rattle.gaz_answers.specs.Paging.{IsStart, is_behind}
-use Rattle.gaz_kept.specs.Versions.{history_in, item_in, living, number_in}
 use Rattle.gaz_answers.proofs.Chosen.{FitJust}
 use Rattle.gaz_answers.proofs.Holding.{HoldsItem, kind_row, own_row, said_cells, said_entry, said_history, said_key, said_known, said_text}
 use Rattle.gaz_answers.specs.Streets.{is_of_blpu}

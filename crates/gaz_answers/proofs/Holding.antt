@@ -29,10 +29,10 @@ use Rattle.gaz_tables.proofs.VersionOnce.{born_once}
 use Rattle.gaz_tables.specs.Schema.{version2}
 use Rattle.gaz_tables.specs.Versions as table
 use Rattle.gaz_tables.specs.Tables.{rows_of}
+use Rattle.gaz_row_items.specs.Versions.{cells_in, histories_in, history_in, item_in, living, number_in, text_in, view_in}
+use Rattle.gaz_row_items.proofs.CustodyFollows.{no_item}
 use Rattle.gaz_kept.specs.Kept.{IsItemRow, IsKept, IsVersion}
-use Rattle.gaz_kept.specs.Versions.{cells_in, histories_in, history_in, item_in, living, number_in, text_in, view_in}
 use Rattle.gaz_kept.proofs.Sorted.{map_from, map_has}
-use Rattle.gaz_kept.proofs.CustodyFollows.{no_item}
 use Rattle.gaz_kept.proofs.RowsRead.{birth_of, fits, history_of, item_of, item_row, its_custodian, not_none, passage_kind, read_from, read_in, some_same}
 use Rattle.gaz_kept.proofs.Views.{Holds, entered, entries_at, entry, one_holds, single_at}
 

@@ -23,8 +23,8 @@ use Rattle.gaz_tables.specs.Rowids.{FindsInTurn, row_shown, rowid_of}
 use Rattle.gaz_tables.specs.Schema.{version2}
 use Rattle.gaz_tables.specs.Versions.{born_of, cust_of, gone_of}
 use Rattle.gaz_tables.specs.Tables.{rows_of}
+use Rattle.gaz_row_items.specs.Versions.{history_in, item_in, living, number_in}
 use Rattle.gaz_kept.specs.Kept.{IsKept}
-use Rattle.gaz_kept.specs.Versions.{history_in, item_in, living, number_in}
 use Rattle.gaz_kept.proofs.RowsRead.{not_none}
 use Rattle.gaz_loaded.specs.Lives as loaded
 use Rattle.gaz_loaded.specs.declared.listed.Life.{Life}

@@ -33,11 +33,11 @@ use Rattle.gaz_tables.specs.Versions as table
 use Rattle.gaz_tables.specs.Versions.{FindsHolding, IsHolding, body_shown}
 use Rattle.gaz_tables.specs.Tables.{rows_of}
 use Rattle.gaz_keeper.specs.Board.{reached}
+use Rattle.gaz_row_items.specs.Versions.{text_in, view_in}
 use Rattle.gaz_kept.specs.Contents.{board_of}
 use Rattle.gaz_kept.specs.Files.{reached_in}
 use Rattle.gaz_kept.specs.Kept.{IsKept}
 use Rattle.gaz_answers.specs.Paging.{IsPageFrom, IsStart, SayItems, is_behind, item_said}
-use Rattle.gaz_kept.specs.Versions.{text_in, view_in}
 use Rattle.gaz_kept.proofs.Boards.{board_reads}
 use Rattle.gaz_answers.proofs.Chosen.{page_read}
 use Rattle.gaz_answers.proofs.Fits.{comes_in, holding_just}

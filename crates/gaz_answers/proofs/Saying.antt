@@ -13,9 +13,9 @@ use Rattle.gaz_records.specs.declared.item.Kind.TheVariants as kind
 use Rattle.gaz_records.specs.declared.key.Key.{Key}
 use Rattle.gaz_records.specs.declared.key.Key.TheVariants as key
 use Rattle.gaz_cells.specs.Ids.{key_named, kind_in, name_of, uprn_in, usrn_in}
-use Rattle.gaz_kept.specs.Decoding.{IsItemAt}
+use Rattle.gaz_row_items.specs.Decoding.{IsItemAt}
+use Rattle.gaz_row_items.specs.Versions.{text_in}
 use Rattle.gaz_answers.specs.Paging.{item_said}
-use Rattle.gaz_kept.specs.Versions.{text_in}
 
 made_kind : {A : Type 0} (f : A → Key) (k : Kind) → ((a : A) → kind_in (f a) ≡ k) → (o : Option A) (q : Key) → option_map f o ≡ Some q → kind_in q ≡ k
 made_kind f k all None q e = absurd (cc)

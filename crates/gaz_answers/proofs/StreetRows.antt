@@ -36,6 +36,7 @@ use Rattle.gaz_overlay.specs.Changes.{Changes}
 use Rattle.gaz_tables.specs.Schema.{received, version2}
 use Rattle.gaz_tables.specs.Versions as table
 use Rattle.gaz_tables.specs.Versions.{FindsApprovedOn, FindsParts, IsApprovedOn, IsPartOf, id_place, id_shown, lang_shown}
+use Rattle.gaz_row_items.specs.Versions.{item_in, number_in, text_in}
 use Rattle.gaz_kept.specs.Files.{reached_in}
 use Rattle.gaz_kept.specs.Kept.{IsKept, IsVersion}
 use Rattle.gaz_kept.specs.LastViews.{last_in}
@@ -43,7 +44,6 @@ use Rattle.gaz_answers.specs.Paging.{is_behind, says_lang}
 use Rattle.gaz_answers.specs.Streets.{AreBehind, IsStep, IsStepOf, is_left_on, is_left_part, is_left_tied, is_of_blpu, leaves, names_left, says_left}
 use Rattle.gaz_answers.specs.declared.steps.Step.{Step}
 use Rattle.gaz_answers.specs.declared.steps.Step.TheVariants.{Told, Behind}
-use Rattle.gaz_kept.specs.Versions.{item_in, number_in, text_in}
 use Rattle.gaz_tables.specs.Shows.{ShowsPage}
 use Rattle.gaz_tables.specs.Tables.{rows_of}
 use Rattle.gaz_answers.proofs.Chosen.{FitJust, chosen_fits, chosen_rises, fit_chosen}

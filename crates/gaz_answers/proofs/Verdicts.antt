@@ -19,14 +19,14 @@ use Rattle.gaz_tables.specs.Receiveds.{FindsVerdict, IsVolume, verdict_shown}
 use Rattle.gaz_tables.specs.Schema.{received, version2}
 use Rattle.gaz_tables.specs.Tables.{rows_of}
 use Rattle.gaz_answers.specs.Answers.{SaysVerdict}
+use Rattle.gaz_row_items.specs.Versions.{number_in}
+use Rattle.gaz_row_items.proofs.Pairs.{at_one, missing}
 use Rattle.gaz_kept.specs.Contents.{board_in}
 use Rattle.gaz_kept.specs.Files.{custodian_in, judged_in, judged_volumes, verdict_in, volume_in}
 use Rattle.gaz_kept.specs.Judging.{AreFiles}
 use Rattle.gaz_kept.specs.Kept.{IsKept}
-use Rattle.gaz_kept.specs.Versions.{number_in}
 use Rattle.gaz_kept.proofs.Boards.{board_reads}
 use Rattle.gaz_kept.proofs.Judging.{said_as, said_by, single_judged}
-use Rattle.gaz_kept.proofs.Pairs.{at_one, missing}
 use Rattle.gaz_kept.proofs.Stands.{are_files}
 use Rattle.gaz_kept.proofs.RowsRead.{not_none, read_from, read_in, whole}
 

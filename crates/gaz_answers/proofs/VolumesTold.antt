@@ -16,12 +16,12 @@ use Rattle.gaz_sql_facts.proofs.Lists.{has_permuted, permuted_has}
 use Rattle.gaz_tables.specs.Receiveds.{FindsAbove, IsAbove, bytes_of, volume_of, volume_shown}
 use Rattle.gaz_tables.specs.Schema.{received}
 use Rattle.gaz_tables.specs.Tables.{rows_of}
+use Rattle.gaz_row_items.specs.Versions.{number_in}
+use Rattle.gaz_row_items.proofs.Pairs.{at_one}
 use Rattle.gaz_kept.specs.Files.{bytes_in, custodian_in, file_in, files_in, volume_in}
 use Rattle.gaz_kept.specs.Judging.{AreFiles}
 use Rattle.gaz_kept.specs.Kept.{IsKept}
-use Rattle.gaz_kept.specs.Versions.{number_in}
 use Rattle.gaz_kept.proofs.Judging.{single_files}
-use Rattle.gaz_kept.proofs.Pairs.{at_one}
 use Rattle.gaz_kept.proofs.Stands.{are_files, row_of}
 use Rattle.gaz_answers.specs.Volumes.{SayVolumes, TellsVolumes, WasReceived, whole}
 use Rattle.gaz_answers.proofs.LivesTold.{less_is}

@@ -18,11 +18,12 @@ use Rattle.gaz_keeper.proofs.Pairs.{pairs_exact, pairs_total}
 use Rattle.gaz_keeper.specs.Received.{pair_cmp}
 use Rattle.gaz_overlay.specs.Rows.{HistoryRow}
 use Rattle.gaz_tables.specs.Rowids.{IsPlacedBehind, rowid_of}
-use Rattle.gaz_kept.specs.Examples.{changed, changed_101, of_1002, six_files}
+use Rattle.gaz_row_items.specs.Examples.{changed, changed_101, of_1002}
+use Rattle.gaz_row_items.specs.Versions.{living}
+use Rattle.gaz_row_items.proofs.Pairs as pairs
+use Rattle.gaz_row_items.proofs.Said.{says}
+use Rattle.gaz_kept.specs.Examples.{six_files}
 use Rattle.gaz_kept.specs.Files.{file_in}
-use Rattle.gaz_kept.specs.Versions.{living}
-use Rattle.gaz_kept.proofs.Pairs as pairs
-use Rattle.gaz_kept.proofs.Said.{says}
 use Rattle.gaz_kept.proofs.RowsRead.{some_same}
 use Rattle.gaz_loaded.specs.declared.listed.Life.{Life}
 use Rattle.gaz_answers.specs.Lives.{IsRowUntil, SaysLife, TellsLives, is_items}

@@ -4,8 +4,8 @@ use Rattle.std.specs.Global.{Vec}
 use Rattle.sqlite.specs.declared.types.Value.TheVariants.{Blob}
 use Rattle.sqlite.specs.Order.{Row, column}
 use Rattle.gaz_views.specs.declared.verdict.Verdict.{Verdict}
+use Rattle.gaz_row_items.specs.Versions.{number_in}
 use Rattle.gaz_kept.specs.Files.{verdict_of}
-use Rattle.gaz_kept.specs.Versions.{number_in}
 
 -- the most rows of one answer
 abbrev pub most_rows : ℕ

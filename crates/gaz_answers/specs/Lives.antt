@@ -14,7 +14,7 @@ use Rattle.gaz_overlay.specs.Rows.{never}
 use Rattle.gaz_tables.specs.Rowids.{IsPlacedBehind, rowid_of}
 use Rattle.gaz_tables.specs.Shows.{IsAnyRow}
 use Rattle.gaz_tables.specs.Versions.{born_of, cust_of, gone_of, kind_of}
-use Rattle.gaz_kept.specs.Versions.{history_in, item_in, number_in}
+use Rattle.gaz_row_items.specs.Versions.{history_in, item_in, number_in}
 use Rattle.gaz_loaded.specs.Telling.{told}
 use Rattle.gaz_loaded.specs.declared.listed.Life.{Life}
 use Rattle.gaz_answers.specs.Answers.{most_rows}

@@ -15,7 +15,7 @@ use Rattle.gaz_views.specs.Words.{comes_after}
 use Rattle.gaz_cells.specs.Ids.{id_of, is_key, kind_in}
 use Rattle.gaz_keeper.specs.Board.{Board}
 use Rattle.gaz_keeper.specs.Telling.{IsPageAt}
-use Rattle.gaz_kept.specs.Versions.{number_in, text_in}
+use Rattle.gaz_row_items.specs.Versions.{number_in, text_in}
 
 -- ---- where a page begins
 

@@ -5,8 +5,8 @@ use Rattle.gaz_ids.specs.Limits.{last_volume}
 use Rattle.gaz_records.specs.declared.key.Key.TheVariants as key
 use Rattle.gaz_records.specs.declared.item.Kind.TheVariants as kind
 use Rattle.gaz_cells.specs.Ids.{id_of, is_key, key_named}
-use Rattle.gaz_kept.specs.NewestPassages.{SaysPassed}
-use Rattle.gaz_kept.specs.Versions.{text_in}
+use Rattle.gaz_row_items.specs.NewestPassages.{SaysPassed}
+use Rattle.gaz_row_items.specs.Versions.{text_in}
 use Rattle.gaz_loaded.specs.declared.listed.Passage.{Passage}
 
 -- a row of id, born, gone, live, street, hop, lang and body says what became of a number

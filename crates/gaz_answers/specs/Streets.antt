@@ -16,7 +16,7 @@ use Rattle.gaz_views.specs.View.{View}
 use Rattle.gaz_views.specs.Words.{entries, is_approved_on, is_child_of, names}
 use Rattle.gaz_cells.specs.Ids.{key_named}
 use Rattle.gaz_overlay.specs.Changes.{Changes, is_touched}
-use Rattle.gaz_kept.specs.Versions.{text_in}
+use Rattle.gaz_row_items.specs.Versions.{text_in}
 use Rattle.gaz_answers.specs.Paging.{is_behind, says_lang}
 use Rattle.gaz_answers.specs.declared.steps.Step.{Step}
 use Rattle.gaz_answers.specs.declared.steps.Step.TheVariants.{Told, Behind}

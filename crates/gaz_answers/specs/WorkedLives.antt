@@ -3,7 +3,8 @@ use Rattle.std.specs.Prelude.{pos, List, [], ◌∷◌, None, Some}
 use Rattle.sqlite.specs.Order.{Row}
 use Rattle.gaz_views.specs.Examples.{street}
 use Rattle.gaz_keeper.specs.Received.{Received}
-use Rattle.gaz_kept.specs.Examples.{changed, changed_101, of_1002, six_files}
+use Rattle.gaz_row_items.specs.Examples.{changed, changed_101, of_1002}
+use Rattle.gaz_kept.specs.Examples.{six_files}
 use Rattle.gaz_kept.specs.Files.{files_in}
 use Rattle.gaz_loaded.specs.declared.listed.Life.{Life}
 use Rattle.gaz_answers.specs.Lives.{SaysLife, TellsLives}

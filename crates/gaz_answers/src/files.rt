@@ -3,7 +3,7 @@ ghost use Rattle.std.specs.Prelude.{◌≡◌, IfOk};
 ghost use Rattle.gaz_kept.specs.Files.{verdict_of};
 ghost use Rattle.gaz_answers.specs.Answers.{SaysBytes, SaysVerdict};
 
-use gaz_kept::decoding::{RowFault, number};
+use gaz_row_items::decoding::{RowFault, number};
 use gaz_views::Verdict;
 use sqlite::{Error, Row};
 

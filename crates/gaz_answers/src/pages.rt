@@ -4,8 +4,8 @@ ghost use Rattle.std.specs.String.{string_bytes};
 ghost use Rattle.gaz_answers.specs.Paging.{IsStart, SayItems, item_said};
 
 use gaz_cells::Bodies;
-use gaz_kept::decoding::{RowFault, body_lines, key_in, kind_in, name_of, next_item_in};
 use gaz_records::{Key, Kind, SharedItem};
+use gaz_row_items::decoding::{RowFault, body_lines, key_in, kind_in, name_of, next_item_in};
 use sqlite::Row;
 use std::alloc::Global;
 

@@ -3,14 +3,14 @@ ghost use Rattle.std.specs.Prelude.{◌≡◌, IfOk, Some};
 ghost use Rattle.std.specs.String.{string_bytes};
 ghost use Rattle.sqlite.specs.Order.{column};
 ghost use Rattle.gaz_cells.specs.Ids.{key_named};
-ghost use Rattle.gaz_kept.specs.Versions.{text_in};
+ghost use Rattle.gaz_row_items.specs.Versions.{text_in};
 ghost use Rattle.gaz_answers.specs.Passages.{IsStartOf, SayPassages};
 
 use gaz_ids::{LAST_VOLUME, Uprn};
-use gaz_kept::decoding::{RowFault, key_in, name_of};
-use gaz_kept::passages::passed_in;
 use gaz_loaded::Passage;
 use gaz_records::{Key, Kind};
+use gaz_row_items::decoding::{RowFault, key_in, name_of};
+use gaz_row_items::passages::passed_in;
 use sqlite::Row;
 use std::alloc::Global;
 

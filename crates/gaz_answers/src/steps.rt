@@ -4,16 +4,16 @@ ghost use Rattle.std.specs.List.{list_any};
 ghost use Rattle.std.specs.String.{string_bytes};
 ghost use Rattle.sqlite.specs.Order.{column};
 ghost use Rattle.gaz_cells.specs.Ids.{key_named};
-ghost use Rattle.gaz_kept.specs.Versions.{text_in};
+ghost use Rattle.gaz_row_items.specs.Versions.{text_in};
 ghost use Rattle.gaz_answers.specs.Paging.{says_lang};
 ghost use Rattle.gaz_answers.specs.Streets.{Decides, IsIdOf, IsStepOf};
 ghost use Rattle.gaz_answers.specs.Streets.{leaves, names_left, says_left};
 
 use crate::sizes::MOST;
 use gaz_ids::Lang;
-use gaz_kept::decoding::{RowFault, key_in, number, text};
 use gaz_overlay::Overlay;
 use gaz_records::Kind;
+use gaz_row_items::decoding::{RowFault, key_in, number, text};
 use sqlite::Row;
 use std::alloc::Global;
 

@@ -5,7 +5,7 @@ ghost use Rattle.sqlite.specs.declared.types.Value.TheVariants.{Int};
 ghost use Rattle.gaz_answers.specs.Volumes.{SayVolumes};
 
 use gaz_ids::{LAST_VOLUME, Volume};
-use gaz_kept::decoding::{RowFault, number};
+use gaz_row_items::decoding::{RowFault, number};
 use sqlite::Row;
 use std::alloc::Global;
 

@@ -35,8 +35,8 @@ use Rattle.gaz_tables.specs.Custody.{ComesBehind as Comes}
 use Rattle.gaz_tables.specs.Schema.{version2}
 use Rattle.gaz_tables.specs.Versions as table
 use Rattle.gaz_tables.specs.Tables.{rows_of}
+use Rattle.gaz_row_items.specs.Versions.{custody_cells_in, number_in, passage_in, passing, text_in}
 use Rattle.gaz_kept.specs.Kept.{IsKept}
-use Rattle.gaz_kept.specs.Versions.{custody_cells_in, number_in, passage_in, passing, text_in}
 use Rattle.gaz_kept.proofs.PassageStatements.{Known, its_owner, kind_passage, known_of, passage_row}
 use Rattle.gaz_kept.proofs.PassageStatements as said
 use Rattle.gaz_kept.proofs.Reached.{reached_room}

@@ -18,14 +18,14 @@ use Rattle.gaz_overlay.specs.declared.touch.Stood.TheVariants.{NoRow, Past, Sinc
 use Rattle.gaz_tables.specs.Custody.{FindsCustody, FindsCustodyUntil}
 use Rattle.gaz_tables.specs.Schema.{received, version2}
 use Rattle.gaz_tables.specs.Tables.{rows_of}
+use Rattle.gaz_row_items.specs.Newest.{IsNewest, TellsStood, current_in, stood_by}
+use Rattle.gaz_row_items.specs.NewestPassages.{HasPassage, SaysPassage, born_of, custody_of}
+use Rattle.gaz_row_items.specs.Versions.{histories_in, passages_in, view_in}
+use Rattle.gaz_row_items.specs.declared.newest.Life.{Life}
+use Rattle.gaz_row_items.specs.declared.passages.Passed.{Passed}
 use Rattle.gaz_kept.specs.Files.{reached_in}
 use Rattle.gaz_kept.specs.Kept.{IsKept}
 use Rattle.gaz_kept.specs.LastViews.{last_in}
-use Rattle.gaz_kept.specs.Newest.{IsNewest, TellsStood, current_in, stood_by}
-use Rattle.gaz_kept.specs.NewestPassages.{HasPassage, SaysPassage, born_of, custody_of}
-use Rattle.gaz_kept.specs.Versions.{histories_in, passages_in, view_in}
-use Rattle.gaz_kept.specs.declared.newest.Life.{Life}
-use Rattle.gaz_kept.specs.declared.passages.Passed.{Passed}
 use Rattle.gaz_kept.proofs.AtKeys.{last_use, stood_there}
 use Rattle.gaz_kept.proofs.NewestPassages.{TellsAt, custody_now, custody_then, passage_told, passage_until_told, passed_now, told_passage}
 use Rattle.gaz_kept.proofs.PassageRows.{no_key_passed}

@@ -29,16 +29,16 @@ use Rattle.gaz_sql_facts.proofs.Lists.{has_permuted, permuted_has}
 use Rattle.gaz_tables.specs.Receiveds.{FindsAbove, IsAbove, bytes_of, volume_of, volume_shown}
 use Rattle.gaz_tables.specs.Schema.{received, version2}
 use Rattle.gaz_tables.specs.Tables.{rows_of}
+use Rattle.gaz_row_items.specs.Versions.{number_in}
+use Rattle.gaz_row_items.proofs.Pairs.{at_one}
+use Rattle.gaz_row_items.proofs.Pairs as pairs
 use Rattle.gaz_kept.specs.Contents.{board_of}
 use Rattle.gaz_kept.specs.Files.{bytes_in, custodian_in, file_in, files_in, judged_in, reached_in, volume_in}
 use Rattle.gaz_kept.specs.Judging.{AreFiles, BoardReads}
 use Rattle.gaz_kept.specs.Kept.{IsFile, IsKept}
-use Rattle.gaz_kept.specs.Versions.{number_in}
 use Rattle.gaz_kept.proofs.Boards.{board_reads}
 use Rattle.gaz_calls.proofs.Counts.{above_is, above_true, counts, is_above, is_same, same, waits}
 use Rattle.gaz_kept.proofs.Judging.{said_by, single_files}
-use Rattle.gaz_kept.proofs.Pairs.{at_one}
-use Rattle.gaz_kept.proofs.Pairs as pairs
 use Rattle.gaz_kept.proofs.Stands.{IsThere, are_files, row_of}
 use Rattle.gaz_kept.proofs.RowsRead.{read_from}
 

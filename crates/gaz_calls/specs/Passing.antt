@@ -8,11 +8,11 @@ use Rattle.gaz_views.specs.View.{custody_at}
 use Rattle.gaz_overlay.specs.Passages.{PassageRow, has_passed}
 use Rattle.gaz_tables.specs.Schema.{received, version2}
 use Rattle.gaz_tables.specs.Tables.{rows_of}
+use Rattle.gaz_row_items.specs.NewestPassages.{HasPassage, born_of, custody_of}
+use Rattle.gaz_row_items.specs.Versions.{passages_in}
+use Rattle.gaz_row_items.specs.declared.passages.Passed.{Passed}
 use Rattle.gaz_kept.specs.Files.{reached_in}
 use Rattle.gaz_kept.specs.LastViews.{last_in}
-use Rattle.gaz_kept.specs.NewestPassages.{HasPassage, born_of, custody_of}
-use Rattle.gaz_kept.specs.Versions.{passages_in}
-use Rattle.gaz_kept.specs.declared.passages.Passed.{Passed}
 
 -- what became of a custodian's numbers
 abbrev pub passages_of : Database → ℕ → List PassageRow

@@ -1,6 +1,6 @@
 -- Worked examples of what is known of numbers that were passed on, computed from the definitions.
 use Rattle.std.specs.Prelude.{◌≡◌, false, true, [], ◌∷◌, None, Some}
-use Rattle.gaz_kept.specs.PassageExamples.{given_up}
+use Rattle.gaz_row_items.specs.PassageExamples.{given_up}
 use Rattle.gaz_calls.specs.Passing.{is_any, knows_none}
 
 pub record WorkedPassing : Type 0 where

@@ -8,8 +8,8 @@ ghost use Rattle.gaz_kept.specs.Opening.{IsSettled};
 
 use crate::tables::Tables;
 use gaz_keeper::ShelfFault;
-use gaz_kept::decoding::RowFault;
 use gaz_kept::probing::probe;
+use gaz_row_items::decoding::RowFault;
 use sqlite::{Alter, Error, ErrorCode};
 
 impl<S: Alter> Tables<S> {

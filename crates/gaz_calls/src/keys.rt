@@ -8,21 +8,21 @@ ghost use Rattle.gaz_tables.specs.Versions.{FindsNewest, FindsNewestUntil};
 ghost use Rattle.gaz_tables.specs.Tables.{rows_of};
 ghost use Rattle.gaz_views.specs.View.{was_used};
 ghost use Rattle.gaz_calls.specs.Asking.{AsksTables};
+ghost use Rattle.gaz_row_items.specs.Newest.{IsNewest, IsNewestUntil, TellsStood};
+ghost use Rattle.gaz_row_items.specs.Versions.{histories_in, view_in};
 ghost use Rattle.gaz_kept.specs.Files.{reached_in};
 ghost use Rattle.gaz_kept.specs.LastViews.{last_in};
-ghost use Rattle.gaz_kept.specs.Newest.{IsNewest, IsNewestUntil, TellsStood};
-ghost use Rattle.gaz_kept.specs.Versions.{histories_in, view_in};
 ghost use Rattle.gaz_calls.specs.Passing.{any_passed, was_passed};
 
 use crate::tables::Tables;
 use gaz_answers::volumes::capped;
 use gaz_ids::Code;
 use gaz_keeper::ShelfFault;
-use gaz_kept::decoding::{kind_in, name_of};
-use gaz_kept::newest::{Life, current_in, item_after, newest_said, stood_by, stood_said};
-use gaz_kept::passages::Passed;
 use gaz_overlay::Stood;
 use gaz_records::{Key, Kind, SharedItem};
+use gaz_row_items::decoding::{kind_in, name_of};
+use gaz_row_items::newest::{Life, current_in, item_after, newest_said, stood_by, stood_said};
+use gaz_row_items::passages::Passed;
 use gaz_tables::versions;
 use sqlite::{Alter, Row};
 

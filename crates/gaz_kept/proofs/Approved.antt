@@ -26,9 +26,9 @@ use Rattle.gaz_overlay.specs.Rows.{HistoryRow, never}
 use Rattle.gaz_sql_facts.proofs.Lists.{has_permuted, permuted_has}
 use Rattle.gaz_tables.specs.Versions as table
 use Rattle.gaz_tables.specs.Versions.{FindsApprovedOf, IsApprovedOf, body_shown}
-use Rattle.gaz_kept.specs.Addresses.{Names, SaysFirst, SaysKeys, SaysLeast}
+use Rattle.gaz_row_items.specs.Addresses.{Names, SaysFirst, SaysKeys, SaysLeast}
+use Rattle.gaz_row_items.specs.Versions.{histories_in, history_in, living, number_in, text_in, view_in}
 use Rattle.gaz_kept.specs.Kept.{AreThrough, AreVersions}
-use Rattle.gaz_kept.specs.Versions.{histories_in, history_in, living, number_in, text_in, view_in}
 use Rattle.gaz_kept.proofs.AtKeys.{held_item, item_held}
 use Rattle.gaz_kept.proofs.NewestRows.{same_item}
 use Rattle.gaz_kept.proofs.Rising.{approved_is, approved_rise, approved_there, entry_is, rising_same}

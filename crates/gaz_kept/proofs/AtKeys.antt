@@ -13,10 +13,10 @@ use Rattle.gaz_views.specs.View.{was_used}
 use Rattle.gaz_overlay.specs.Over.{IsStood, key_view}
 use Rattle.gaz_overlay.specs.Rows.{HasCurrent, HistoryRow, IsCurrent, never, view_after}
 use Rattle.gaz_overlay.specs.declared.touch.Stood.TheVariants.{NoRow, Past, Since}
+use Rattle.gaz_row_items.specs.Newest.{IsNewest, IsNewestUntil, TellsStood, current_in, item_after, row_of, stood_by}
+use Rattle.gaz_row_items.specs.declared.newest.Life.{Life}
+use Rattle.gaz_row_items.proofs.Pairs.{at_one, found, in_set, missing, not_in_set}
 use Rattle.gaz_kept.specs.Kept.{AreInTurn, AreThrough}
-use Rattle.gaz_kept.specs.Newest.{IsNewest, IsNewestUntil, TellsStood, current_in, item_after, row_of, stood_by}
-use Rattle.gaz_kept.specs.declared.newest.Life.{Life}
-use Rattle.gaz_kept.proofs.Pairs.{at_one, found, in_set, missing, not_in_set}
 use Rattle.gaz_kept.proofs.Views.{Holds, IsEntry, entered_as, entries_at, entry, lt_is, single_at, use_of, used_as, used_at}
 
 pub has_current : (rows : List HistoryRow) (k : Key) (volume : ℕ) (h : HistoryRow) → Has rows h → IsCurrent k volume h → HasCurrent rows k volume

@@ -15,11 +15,11 @@ use Rattle.gaz_views.specs.Judgements.{Judgement, judgements}
 use Rattle.gaz_views.specs.View.{empty_view}
 use Rattle.gaz_views.specs.declared.verdict.Verdict.{Verdict}
 use Rattle.gaz_keeper.specs.Board.{reached, verdict_on, view_after}
+use Rattle.gaz_row_items.specs.Versions.{histories_in, passages_in, view_in}
 use Rattle.gaz_kept.specs.Contents.{board_in}
 use Rattle.gaz_kept.specs.Files.{judged_volumes, reached_in, verdicts_in}
 use Rattle.gaz_kept.specs.Judging.{AreBornLater, ArePassedLater, BoardAdds, BoardChanges, BoardReads}
 use Rattle.gaz_kept.specs.Kept.{AreFirst}
-use Rattle.gaz_kept.specs.Versions.{histories_in, passages_in, view_in}
 use Rattle.gaz_kept.proofs.PassageViews.{nothing_at_first, views_stay}
 
 -- ---- one more judgement

@@ -13,9 +13,9 @@ use Rattle.gaz_records.specs.declared.key.Key.{Key}
 use Rattle.gaz_views.proofs.SameKeys.{same_key}
 use Rattle.gaz_views.specs.View.{without_key}
 use Rattle.gaz_overlay.specs.Rows.{HistoryRow, view_after}
+use Rattle.gaz_row_items.proofs.Pairs.{IsWithout, removed}
 use Rattle.gaz_kept.specs.Histories.{Close, GoesWith, HistoriesChange, IsLast, RowsClose, gone_with}
 use Rattle.gaz_kept.specs.Kept.{AreInTurn}
-use Rattle.gaz_kept.proofs.Pairs.{IsWithout, removed}
 use Rattle.gaz_kept.proofs.Views.{Holds, IsEntry, IsUse, Rows, entered_as, entries_at, entry, rows_gain, rows_join, same_items, same_rows, same_uses, single_at, ties, used_at}
 
 module _ (h : HistoryRow) (volume : ℕ) (old new : Rows) (apart : AreInTurn old) (last : IsLast h old) (goes : GoesWith h volume) (close : Close h volume old new) where

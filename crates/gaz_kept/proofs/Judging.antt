@@ -21,11 +21,11 @@ use Rattle.gaz_keeper.proofs.Pairs.{pairs_exact, pairs_total}
 use Rattle.gaz_sql_facts.specs.Changes.{IsAdded, IsChanged}
 use Rattle.gaz_tables.specs.Receiveds as table
 use Rattle.gaz_tables.specs.Receiveds.{IsVolume, judged, unjudged}
+use Rattle.gaz_row_items.specs.Versions.{number_in}
+use Rattle.gaz_row_items.proofs.Pairs.{AreSingle, IsWith, alike, inserted, not_there}
 use Rattle.gaz_kept.specs.Files.{bytes_in, custodian_in, file_in, files_in, judged_in, judged_volumes, reached_in, verdict_in, verdict_of, verdicts_in, volume_in}
 use Rattle.gaz_kept.specs.Judging.{AreFiles, Arrives, FilesChange, IsJudged, IsVerdict}
 use Rattle.gaz_kept.specs.Kept.{AreFirst, IsFile}
-use Rattle.gaz_kept.specs.Versions.{number_in}
-use Rattle.gaz_kept.proofs.Pairs.{AreSingle, IsWith, alike, inserted, not_there}
 use Rattle.gaz_kept.proofs.RowsRead.{not_none, read_from, read_in, some_same, whole}
 
 -- ---- the entries of the files

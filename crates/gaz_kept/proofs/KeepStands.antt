@@ -30,18 +30,18 @@ use Rattle.gaz_tables.specs.Receiveds.{Applies}
 use Rattle.gaz_tables.specs.Schema.{received, version2}
 use Rattle.gaz_tables.specs.Stores.{HasTables}
 use Rattle.gaz_tables.specs.Tables.{rows_of}
+use Rattle.gaz_row_items.specs.NewestPassages.{HasPassage}
+use Rattle.gaz_row_items.specs.Versions.{histories_in, number_in, passages_in, view_in}
+use Rattle.gaz_row_items.proofs.Pairs.{has_tied, ties_has}
 use Rattle.gaz_kept.specs.Contents.{board_in}
 use Rattle.gaz_kept.specs.Files.{Judged, files_in, reached_in, verdicts_in, volume_in}
 use Rattle.gaz_kept.specs.Histories.{AreSame}
 use Rattle.gaz_kept.specs.Judging.{IsJudged, IsVerdict}
 use Rattle.gaz_kept.specs.Keeping.{IsToKeep, KeepStands, KeepsVolume, WritesAll}
 use Rattle.gaz_kept.specs.Kept.{AreFirst, ArePassages, AreThrough, IsKept}
-use Rattle.gaz_kept.specs.NewestPassages.{HasPassage}
 use Rattle.gaz_kept.specs.Passages.{IsLastOf}
-use Rattle.gaz_kept.specs.Versions.{histories_in, number_in, passages_in, view_in}
 use Rattle.gaz_kept.proofs.Boards.{board_adds, board_reads}
 use Rattle.gaz_kept.proofs.Judging.{files_change}
-use Rattle.gaz_kept.proofs.Pairs.{has_tied, ties_has}
 use Rattle.gaz_kept.proofs.PassageRows.{find_last, passages_same, rows_say}
 use Rattle.gaz_kept.proofs.PassageViews.{same_views}
 use Rattle.gaz_kept.proofs.PassageWalking.{AreKnown, IsOnTheWay, not_begun, pass_on, write_numbers}

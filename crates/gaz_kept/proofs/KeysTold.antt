@@ -17,13 +17,13 @@ use Rattle.gaz_overlay.specs.declared.touch.Stood.{Stood}
 use Rattle.gaz_tables.specs.Schema.{received, version2}
 use Rattle.gaz_tables.specs.Versions.{FindsApprovedOf, FindsNewest, FindsNewestUntil}
 use Rattle.gaz_tables.specs.Tables.{rows_of}
-use Rattle.gaz_kept.specs.Addresses.{SaysKeys, SaysLeast}
+use Rattle.gaz_row_items.specs.Addresses.{SaysKeys, SaysLeast}
+use Rattle.gaz_row_items.specs.Newest.{IsNewest, IsNewestUntil, SaysNewest, SaysStood, current_in, item_after, stood_by}
+use Rattle.gaz_row_items.specs.Versions.{histories_in, view_in}
+use Rattle.gaz_row_items.specs.declared.newest.Life.{Life}
 use Rattle.gaz_kept.specs.Files.{reached_in}
 use Rattle.gaz_kept.specs.Kept.{IsKept}
 use Rattle.gaz_kept.specs.LastViews.{last_in}
-use Rattle.gaz_kept.specs.Newest.{IsNewest, IsNewestUntil, SaysNewest, SaysStood, current_in, item_after, stood_by}
-use Rattle.gaz_kept.specs.Versions.{histories_in, view_in}
-use Rattle.gaz_kept.specs.declared.newest.Life.{Life}
 use Rattle.gaz_kept.proofs.AtKeys.{item_at, last_item}
 use Rattle.gaz_kept.proofs.Approved.{address_told, approved_told}
 use Rattle.gaz_kept.proofs.NewestRows.{newest_stood, newest_told, newest_until_told}

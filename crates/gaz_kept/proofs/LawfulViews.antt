@@ -23,14 +23,14 @@ use Rattle.gaz_views.specs.Judgements.{Judgement, views}
 use Rattle.gaz_keeper.specs.Keeper.{IsLawful}
 use Rattle.gaz_tables.specs.Schema.{received, version2}
 use Rattle.gaz_tables.specs.Tables.{rows_of}
+use Rattle.gaz_row_items.specs.Versions.{histories_in, history_in, passages_in, view_in}
+use Rattle.gaz_row_items.proofs.Pairs.{in_set}
 use Rattle.gaz_kept.specs.Contents.{board_of, content_in}
 use Rattle.gaz_kept.specs.Files.{reached_in}
 use Rattle.gaz_kept.specs.Kept.{IsKept}
 use Rattle.gaz_kept.specs.LastViews.{last_in}
-use Rattle.gaz_kept.specs.Versions.{histories_in, history_in, passages_in, view_in}
 use Rattle.gaz_kept.proofs.AtKeys.{item_held}
 use Rattle.gaz_kept.proofs.Boards.{board_reads}
-use Rattle.gaz_kept.proofs.Pairs.{in_set}
 use Rattle.gaz_kept.proofs.PassageStatements.{passed_later}
 use Rattle.gaz_kept.proofs.RowsRead.{born_later, history_of, item_of, item_row, its_custodian, read_from, some_same}
 use Rattle.gaz_kept.proofs.Views.{IsEntry, used_as, used_at}

@@ -1,7 +1,3 @@
-pub mod Pairs
-pub mod Decoded
-pub mod Said
-pub mod CustodyFollows
 pub mod Views
 pub mod GoneRows
 pub mod RowsRead
@@ -14,7 +10,6 @@ pub mod AtKeys
 pub mod NewestRows
 pub mod Rising
 pub mod Approved
-pub mod KeysNamed
 pub mod Judging
 pub mod Reached
 pub mod NewestPassages

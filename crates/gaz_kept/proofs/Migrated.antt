@@ -13,6 +13,7 @@ use Rattle.gaz_overlay.specs.Rows.{HistoryRow}
 use Rattle.gaz_tables.specs.Migrating.{HasFirstTables, Migrates, with_hop}
 use Rattle.gaz_tables.specs.Schema.{meta, received, version, version2}
 use Rattle.gaz_tables.specs.Tables.{rows_of}
+use Rattle.gaz_row_items.specs.Versions.{histories_in, history_in, passage_in, passages_in, view_in}
 use Rattle.gaz_kept.specs.Contents.{board_in}
 use Rattle.gaz_kept.specs.Files.{files_in, reached_in, verdicts_in}
 use Rattle.gaz_kept.specs.Histories.{AreSame}
@@ -21,7 +22,6 @@ use Rattle.gaz_kept.specs.Migrated.{IsFirstKept, MigrationStands, first_content_
 use Rattle.gaz_kept.specs.Opening.{IsOf, schema_number}
 use Rattle.gaz_kept.specs.OpeningFirst.{IsOfFirst, first_number}
 use Rattle.gaz_kept.specs.Stands.{Stands}
-use Rattle.gaz_kept.specs.Versions.{histories_in, history_in, passage_in, passages_in, view_in}
 use Rattle.gaz_kept.proofs.Rewritten.{becomes_of}
 use Rattle.gaz_kept.proofs.RowsRead.{read_from, read_in}
 use Rattle.gaz_kept.proofs.PassageRows.{passages_same}

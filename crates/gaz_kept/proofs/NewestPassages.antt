@@ -23,13 +23,13 @@ use Rattle.gaz_tables.specs.Shows.{IsGreatest, ShowsGreatest}
 use Rattle.gaz_tables.specs.Versions as table
 use Rattle.gaz_tables.specs.Versions.{IsOfKey, IsOfKeyUntil, born_place}
 use Rattle.gaz_tables.specs.Tables.{rows_of}
+use Rattle.gaz_row_items.specs.NewestPassages.{HasPassage, SaysPassage, SaysPassed, custody_of}
+use Rattle.gaz_row_items.specs.Versions.{custody_cells_in, number_in, passage_in, passages_in, passing, view_in}
+use Rattle.gaz_row_items.specs.declared.passages.Passed.{Passed}
 use Rattle.gaz_kept.specs.Files.{reached_in}
 use Rattle.gaz_kept.specs.Kept.{AreVersions, IsKept, IsPassageRow}
 use Rattle.gaz_kept.specs.LastViews.{last_in}
-use Rattle.gaz_kept.specs.NewestPassages.{HasPassage, SaysPassage, SaysPassed, custody_of}
 use Rattle.gaz_kept.specs.Passages.{IsLastOf}
-use Rattle.gaz_kept.specs.Versions.{custody_cells_in, number_in, passage_in, passages_in, passing, view_in}
-use Rattle.gaz_kept.specs.declared.passages.Passed.{Passed}
 use Rattle.gaz_kept.proofs.PassageRows.{last_is_current, rows_say}
 use Rattle.gaz_kept.proofs.PassageStatements.{IsPassingOf, PassedBorn, kind_passage, known_of, passage_of, passed_as}
 use Rattle.gaz_kept.proofs.Reached.{reached_room}

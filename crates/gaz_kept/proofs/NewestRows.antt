@@ -17,10 +17,10 @@ use Rattle.gaz_overlay.specs.declared.touch.Stood.{Stood}
 use Rattle.gaz_tables.specs.Shows.{IsGreatest, ShowsGreatest}
 use Rattle.gaz_tables.specs.Versions as table
 use Rattle.gaz_tables.specs.Versions.{FindsNewest, FindsNewestUntil, IsOfKey, IsOfKeyUntil, born_place, life_shown}
+use Rattle.gaz_row_items.specs.Newest.{IsLatestOf, IsNewest, IsNewestUntil, SaysLife, SaysNewest, SaysStood, row_of, stood_by, stood_of}
+use Rattle.gaz_row_items.specs.Versions.{histories_in, history_in, living, number_in, text_in}
+use Rattle.gaz_row_items.specs.declared.newest.Life.{Life}
 use Rattle.gaz_kept.specs.Kept.{AreVersions, IsItemRow}
-use Rattle.gaz_kept.specs.Newest.{IsLatestOf, IsNewest, IsNewestUntil, SaysLife, SaysNewest, SaysStood, row_of, stood_by, stood_of}
-use Rattle.gaz_kept.specs.Versions.{histories_in, history_in, living, number_in, text_in}
-use Rattle.gaz_kept.specs.declared.newest.Life.{Life}
 use Rattle.gaz_kept.proofs.RowsRead.{Born, IsBirthOf, Says, birth_of, born_as, fits, history_of, item_of, kind_row, read_from, read_in, some_same}
 
 -- ---- what the cells of a row at a key say

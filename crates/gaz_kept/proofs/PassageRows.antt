@@ -1,33 +1,28 @@
 -- What became of numbers, by what rows there are.
-use Rattle.std.proofs.Common.{◌≡◌, ◌≢◌, ◌∙◌, ◌≤◌, ◌<◌, ◌+◌, ◌==◌, ◌⊎◌, ◌&&◌, inl, inr, ℕ, Bool, true, false, nat_le, nat_lt, List, [], ◌∷◌, map, filter, refl, sym, ap, subst, arith, eqb-true, true≢false}
+use Rattle.std.proofs.Common.{◌≡◌, ◌≢◌, ◌∙◌, ◌≤◌, ◌<◌, ◌+◌, ◌==◌, ◌⊎◌, ◌&&◌, inl, inr, ℕ, Bool, true, false, nat_le, nat_lt, [], ◌∷◌, map, filter, refl, sym, ap, subst, arith, eqb-true, true≢false}
 use Rattle.std.proofs.lemmas.Bool.{and_from, and_parts, cases_lt}
 use Rattle.std.proofs.lemmas.Bool.Decides.{nat_tests}
 use Rattle.std.specs.Prelude.{Option, Some, None}
 use Rattle.std.specs.Cmp.{nat_cmp_total}
 use Rattle.std.specs.FinMap as finite
-use Rattle.std.specs.FinMap.{find, nat_cmp-IsAntisymmetric}
+use Rattle.std.specs.FinMap.{nat_cmp-IsAntisymmetric}
 use Rattle.std.specs.FinSet as set
-use Rattle.std.specs.List.{list_any}
-use Rattle.std.specs.Ordering.{eq_by_cmp, nat_cmp}
 use Rattle.sqlite_rules.specs.Lists.{Has}
 use Rattle.sqlite_rules.proofs.ListLemmas.{has_filtered, has_kept}
 use Rattle.sqlite_rules.proofs.ProbeLemmas.{has_mapped, mapped_has}
 use Rattle.gaz_records.proofs.KeyOrder.{keys_exact, keys_total}
-use Rattle.gaz_records.specs.Keys.{key_cmp}
 use Rattle.gaz_records.specs.declared.key.Key.{Key}
 use Rattle.gaz_records.specs.declared.key.Key.TheVariants as key
 use Rattle.gaz_views.specs.declared.custody.Custody.{Custody}
 use Rattle.gaz_overlay.specs.Passages.{PassageRow, custody_after, has_passed, is_passed_by, lasts_after, passed_keys}
 use Rattle.gaz_overlay.specs.Rows.{never}
+use Rattle.gaz_row_items.proofs.Pairs.{AreSingle, alike, alike_set, at_one, in_set, missing, not_in_set}
+use Rattle.gaz_row_items.proofs.PassagesAt.{Rows, custody_is, keys_at, passings_at}
 use Rattle.gaz_kept.specs.Histories.{AreSame}
 use Rattle.gaz_kept.specs.Judging.{ArePassedLater}
 use Rattle.gaz_kept.specs.Kept.{ArePassages, IsFollowed, IsPassedUntil}
 use Rattle.gaz_kept.specs.Passages.{ArePassedOnce, IsLastOf, IsLastPassage, LastIsCurrent, RowsSay}
-use Rattle.gaz_kept.proofs.Pairs.{AreSingle, alike, alike_set, at_one, in_set, missing, not_in_set}
 use Rattle.gaz_kept.proofs.Views.{le_is, lt_is, none_pass}
-
-abbrev pub Rows : Type 0
-Rows = List PassageRow
 
 le_so : (a b : ℕ) → a ≤ b → nat_le a b ≡ true
 le_so a b h = grind (arith, nat_tests)
@@ -43,12 +38,6 @@ le_no a b h = grind (arith, nat_tests)
 pub record Lasts (t : ℕ) (p : PassageRow) : Type 0 where
   pub born : p.born ≤ t
   pub gone : t < p.gone
-
-abbrev pub passings_at : ℕ → Rows → List (ℕ × Custody)
-passings_at t rows = map (λ p. (p.uprn, p.custody)) (filter (lasts_after t) rows)
-
-abbrev pub keys_at : ℕ → Rows → List Key
-keys_at t rows = map (λ p. key.Blpu p.uprn) (filter (is_passed_by t) rows)
 
 record IsPassing (t : ℕ) (rows : Rows) (n : ℕ) (x : Custody) : Type 0 where
   row : PassageRow
@@ -85,18 +74,6 @@ key_from t rows q h =
 key_as : (t : ℕ) (rows : Rows) (q : Key) → IsKeyOf t rows q → Has (keys_at t rows) q
 key_as t rows q u = subst (λ k. Has (keys_at t rows) k) u.its_key
     (mapped_has (λ (p : PassageRow). key.Blpu p.uprn) (filter (is_passed_by t) rows) u.row (has_kept (is_passed_by t) rows u.row u.there (le_so u.row.born t u.born)))
-
-pub custody_is : (rows : Rows) (t n : ℕ) → finite.get (custody_after rows t) n ≡ find nat_cmp n (passings_at t rows)
-unfolding custody_after
-custody_is rows t n = finite.get-from_entries nat_cmp_total (passings_at t rows) n
-
-pub used_is : (rows : Rows) (t : ℕ) (q : Key) → has_passed rows t q ≡ list_any (eq_by_cmp key_cmp q) (keys_at t rows)
-unfolding passed_keys
-used_is rows t q = set.contains-from_list keys_total (keys_at t rows) q
-
-pub never_passed : (t : ℕ) (q : Key) → has_passed [] t q ≡ false
-unfolding passed_keys
-never_passed t q = set.contains-from_list keys_total [] q
 
 -- ---- of a number one row lasts
 

@@ -1,5 +1,5 @@
 -- What an INSERT and an UPDATE make of what became of numbers.
-use Rattle.std.proofs.Common.{◌≡◌, ◌≢◌, ◌∙◌, ◌≤◌, ◌==◌, ◌⊎◌, inl, inr, ℕ, pos, Bool, true, false, cond, List, ◌∷◌, refl, sym, ap, subst, eq-eqb, ne_eqb, eqb-true}
+use Rattle.std.proofs.Common.{◌≡◌, ◌≢◌, ◌∙◌, ◌≤◌, ◌==◌, ◌⊎◌, inl, inr, ℕ, pos, Bool, true, false, cond, List, ◌∷◌, refl, sym, ap, subst, eq-eqb, eqb-true}
 use Rattle.std.specs.Prelude.{Option, Some, None, IsSomeAnd, is_some, option_map}
 use Rattle.sqlite.specs.declared.types.Value.{Value}
 use Rattle.sqlite.specs.declared.types.Value.TheVariants.{Int, Text}
@@ -13,17 +13,19 @@ use Rattle.gaz_views.specs.declared.custody.Custody.{Custody}
 use Rattle.gaz_views.specs.declared.custody.Custody.TheVariants.{Adopted, Released}
 use Rattle.gaz_cells.proofs.CustodyBack.{custody_back}
 use Rattle.gaz_cells.proofs.Ids.{ids_apart}
-use Rattle.gaz_cells.specs.Custody.{CustodyValue, custody_cells, custody_in, custody_kind, is_custody, taken_in}
+use Rattle.gaz_cells.specs.Custody.{CustodyValue, custody_in, custody_kind, is_custody, taken_in}
 use Rattle.gaz_cells.specs.Ids.{id_of}
 use Rattle.gaz_overlay.specs.Passages.{PassageRow}
 use Rattle.gaz_tables.specs.Versions as table
 use Rattle.gaz_tables.specs.Versions.{Closes, IsOfBirth, gone_at}
+use Rattle.gaz_row_items.specs.Versions.{custody_cells_in, history_in, number_in, passage_in, passage_values, passages_in, passing, text_in}
+use Rattle.gaz_row_items.proofs.CustodyFollows.{no_item, no_passage}
+use Rattle.gaz_row_items.proofs.Unsaid.{history_none, not_owned, passage_none}
+use Rattle.gaz_row_items.proofs.PassageSaid.{written_cells, says_passage}
 use Rattle.gaz_kept.specs.Judging.{ArePassedLater}
 use Rattle.gaz_kept.specs.Kept.{AreVersions, IsPassageRow, IsVersion}
 use Rattle.gaz_kept.specs.Passages.{ArePassedOnce, EndsPassing, InsertPasses, ended_with}
-use Rattle.gaz_kept.specs.Versions.{custody_cells_in, history_in, number_in, passage_in, passage_values, passages_in, passing, text_in}
-use Rattle.gaz_kept.proofs.CustodyFollows.{no_item, no_passage}
-use Rattle.gaz_kept.proofs.RowsRead.{Tells, gone_version, history_none, not_none, passage_kind, passage_none, read_from, read_in, same_added, same_changed, some_same, tells_of, whole}
+use Rattle.gaz_kept.proofs.RowsRead.{Tells, gone_version, not_none, passage_kind, read_from, read_in, same_added, same_changed, some_same, tells_of, whole}
 
 -- ---- a row and what became of its number
 
@@ -49,9 +51,6 @@ its_owner c r p is = by_test (number_in (table.cust_of r) == c) refl is
     by_test : (b : Bool) → (number_in (table.cust_of r) == c) ≡ b → cond b (option_map (passing (number_in (table.born_of r)) (number_in (table.gone_of r))) (custody_in (custody_cells_in r))) None ≡ Some p → number_in (table.cust_of r) ≡ c
     by_test true t e = eqb-true (number_in (table.cust_of r)) c t
     by_test false t e = not_none p e refl
-
-pub not_owned : (c : ℕ) (r : Row) → number_in (table.cust_of r) ≢ c → passage_in c r ≡ None
-not_owned c r other = ap (λ b. cond b (option_map (passing (number_in (table.born_of r)) (number_in (table.gone_of r))) (custody_in (custody_cells_in r))) None) (ne_eqb (number_in (table.cust_of r)) c other)
 
 -- ---- a row's columns and its number
 
@@ -112,11 +111,6 @@ passed_later c rows all p there = let r = read_from (passage_in c) rows p there 
 
 -- ---- INSERT
 
--- 0 or 1, as it is written and read
-written_cells : (id : Value) (c born gone uprn : ℕ) (x : Custody) → custody_cells_in (id ∷ passage_values c born gone uprn x) ≡ custody_cells uprn x
-written_cells id c born gone uprn (Released to hop) = refl
-written_cells id c born gone uprn (Adopted from hop) = refl
-
 pub written_passage : (id : Value) (c born gone uprn : ℕ) (x : Custody) → is_uprn uprn ≡ true → is_custody x ≡ true → 1 ≤ born → born ≤ gone → IsPassageRow (id ∷ passage_values c born gone uprn x)
 written_passage id c born gone uprn x number such first in_turn = record {
   cust = refl;
@@ -138,12 +132,6 @@ written_passage id c born gone uprn x number such first in_turn = record {
     by_live : (y : Custody) → Int (cond (taken_in y == 1) (pos 1) (pos 0)) ≡ Int (pos (number_in (Int (cond (taken_in y == 1) (pos 1) (pos 0)))))
     by_live (Released to hop) = refl
     by_live (Adopted from hop) = refl
-
--- of its custodian it says what became of the number
-pub says_passage : (id : Value) (c born gone uprn : ℕ) (x : Custody) → is_uprn uprn ≡ true → is_custody x ≡ true → passage_in c (id ∷ passage_values c born gone uprn x) ≡ Some (passing born gone (uprn, x))
-says_passage id c born gone uprn x number such =
-    ap (λ b. cond b (option_map (passing born gone) (custody_in (custody_cells_in (id ∷ passage_values c born gone uprn x)))) None) (eq-eqb c c refl)
-    ∙ ap (option_map (passing born gone)) (ap custody_in (written_cells id c born gone uprn x) ∙ custody_back uprn x number such)
 
 pub insert_passes : InsertPasses
 insert_passes id c born gone uprn x old new number such first in_turn all added = record {

@@ -23,13 +23,14 @@ use Rattle.gaz_overlay.specs.Passages.{PassageRow, PassOn, custody_after, has_pa
 use Rattle.gaz_overlay.specs.Rows.{never}
 use Rattle.gaz_overlay.specs.Writings.{passage_at}
 use Rattle.gaz_tables.specs.Versions.{Closes}
+use Rattle.gaz_row_items.specs.NewestPassages.{HasPassage}
+use Rattle.gaz_row_items.specs.Versions.{passages_in, passing}
+use Rattle.gaz_row_items.proofs.PassagesAt.{Rows}
 use Rattle.gaz_kept.specs.Histories.{AreSame, Gain}
 use Rattle.gaz_kept.specs.Keeping.{AddsPassage, EndsRow, WritesNumber, WritesNumbers}
 use Rattle.gaz_kept.specs.Kept.{ArePassages, AreVersions, IsPassedUntil}
-use Rattle.gaz_kept.specs.NewestPassages.{HasPassage}
 use Rattle.gaz_kept.specs.Passages.{AddsPassing, EndsPassing, IsLastOf, IsLastPassage, PassagesSay, SameHistories}
-use Rattle.gaz_kept.specs.Versions.{passages_in, passing}
-use Rattle.gaz_kept.proofs.PassageRows.{Rows, find_last, no_key_passed, passages_next, rows_say}
+use Rattle.gaz_kept.proofs.PassageRows.{find_last, no_key_passed, passages_next, rows_say}
 use Rattle.gaz_kept.proofs.PassageStatements.{ends_passing, insert_passes}
 use Rattle.gaz_kept.proofs.PassageWriting.{Alike, Ended, alike_then, are_now, comes_of, itself, new_passage, new_there, none_ends, one_ends, others_kept, others_only, still_there}
 use Rattle.gaz_kept.proofs.Walking.{AreNew, onto, same_then}

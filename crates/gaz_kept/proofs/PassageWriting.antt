@@ -5,10 +5,10 @@ use Rattle.sqlite_rules.specs.Lists.{Has}
 use Rattle.gaz_views.specs.declared.custody.Custody.{Custody}
 use Rattle.gaz_overlay.specs.Passages.{PassageRow}
 use Rattle.gaz_overlay.specs.Rows.{never}
+use Rattle.gaz_row_items.proofs.PassagesAt.{Rows}
 use Rattle.gaz_kept.specs.Histories.{Gain}
 use Rattle.gaz_kept.specs.Kept.{ArePassages, IsFollowed, IsPassedUntil}
 use Rattle.gaz_kept.specs.Passages.{Ends, ended_with}
-use Rattle.gaz_kept.proofs.PassageRows.{Rows}
 
 -- two rows of a number that were born in one volume and say the same of it
 pub record Alike (r p : PassageRow) : Type 0 where

@@ -12,10 +12,10 @@ use Rattle.gaz_views.specs.declared.verdict.Verdict.{Verdict}
 use Rattle.gaz_overlay.specs.Rows.{never}
 use Rattle.gaz_tables.specs.Schema.{received}
 use Rattle.gaz_tables.specs.Tables.{rows_of}
+use Rattle.gaz_row_items.proofs.Pairs.{found, listed}
 use Rattle.gaz_kept.specs.Files.{judged_in, judged_volumes, reached_in}
 use Rattle.gaz_kept.specs.Kept.{AreFirst, IsFile, IsKept}
 use Rattle.gaz_kept.proofs.Judging.{said_by}
-use Rattle.gaz_kept.proofs.Pairs.{found, listed}
 use Rattle.gaz_kept.proofs.RowsRead.{read_from}
 
 has_last : (a n : ℕ) → Has (range_with_len a (suc n)) (a + n)

@@ -14,6 +14,7 @@ use Rattle.gaz_tables.specs.Metas.{IsFirst, Rewrites, id_of, meta_row}
 use Rattle.gaz_tables.specs.Schema.{meta, received, version2}
 use Rattle.gaz_tables.specs.Stores.{HasTables}
 use Rattle.gaz_tables.specs.Tables.{rows_of}
+use Rattle.gaz_row_items.specs.Versions.{histories_in, passages_in}
 use Rattle.gaz_kept.specs.Contents.{board_in, content_in}
 use Rattle.gaz_kept.specs.Files.{files_in, reached_in}
 use Rattle.gaz_kept.specs.Kept.{AreFirst, ArePassages, AreThrough, IsKept}
@@ -21,7 +22,6 @@ use Rattle.gaz_kept.specs.Numbered as numbered
 use Rattle.gaz_kept.specs.Opening.{IsOf, schema_number}
 use Rattle.gaz_kept.specs.Rewriting.{Registers, RewritesStand}
 use Rattle.gaz_kept.specs.Stands.{Stands}
-use Rattle.gaz_kept.specs.Versions.{histories_in, passages_in}
 
 -- ---- what the tables stand for
 

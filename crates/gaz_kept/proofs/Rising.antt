@@ -18,7 +18,7 @@ use Rattle.gaz_records.specs.declared.item.Item.{Item}
 use Rattle.gaz_records.specs.declared.key.Key.{Key}
 use Rattle.gaz_views.specs.View.{View}
 use Rattle.gaz_views.specs.Words.{approved_of, entries, is_approved_of}
-use Rattle.gaz_kept.proofs.Pairs.{AreSingle, at_one, found}
+use Rattle.gaz_row_items.proofs.Pairs.{AreSingle, at_one, found}
 
 abbrev pub Rise : List Key → Type 0
 Rise = IsStrictlySortedBy key_cmp

@@ -29,11 +29,12 @@ use Rattle.gaz_overlay.specs.Rows.{HistoryRow}
 use Rattle.gaz_sql_facts.specs.Changes.{IsAdded, IsChanged}
 use Rattle.gaz_tables.specs.Versions as table
 use Rattle.gaz_tables.specs.Versions.{IsOfBirth, gone_at}
+use Rattle.gaz_row_items.specs.Versions.{cells_in, custody_cells_in, histories_in, history_in, item_in, living, number_in, text_in}
+use Rattle.gaz_row_items.proofs.CustodyFollows.{CustodyFollows, custody_follows, no_item}
+use Rattle.gaz_row_items.proofs.Unsaid.{history_none}
 use Rattle.gaz_kept.specs.Histories.{AreSame, gone_with}
 use Rattle.gaz_kept.specs.Judging.{AreBornLater}
 use Rattle.gaz_kept.specs.Kept.{AreVersions, IsItemRow, IsPassageRow, IsVersion}
-use Rattle.gaz_kept.specs.Versions.{cells_in, custody_cells_in, histories_in, history_in, item_in, living, number_in, passage_in, passing, text_in}
-use Rattle.gaz_kept.proofs.CustodyFollows.{CustodyFollows, custody_follows, no_item}
 
 -- ---- lists that are read
 
@@ -106,20 +107,6 @@ tells_of r v = by_answer (custody_in (custody_cells_in r)) refl v.passage
 
 pub passage_kind : (r : Row) → IsPassageRow r → number_in (table.kind_of r) ≡ 92
 passage_kind r v = sym (ap (λ (d : CustodyValue). d.cells.kind) (tells_of r v).follows.cells)
-
-pub history_none : (c : ℕ) (r : Row) → item_in r ≡ None → history_in c r ≡ None
-history_none c r none = by_test (number_in (table.cust_of r) == c)
-  where
-    by_test : (b : Bool) → cond b (option_map (living (number_in (table.born_of r)) (number_in (table.gone_of r))) (item_in r)) None ≡ None
-    by_test true = ap (option_map (living (number_in (table.born_of r)) (number_in (table.gone_of r)))) none
-    by_test false = refl
-
-pub passage_none : (c : ℕ) (r : Row) → custody_in (custody_cells_in r) ≡ None → passage_in c r ≡ None
-passage_none c r none = by_test (number_in (table.cust_of r) == c)
-  where
-    by_test : (b : Bool) → cond b (option_map (passing (number_in (table.born_of r)) (number_in (table.gone_of r))) (custody_in (custody_cells_in r))) None ≡ None
-    by_test true = ap (option_map (passing (number_in (table.born_of r)) (number_in (table.gone_of r)))) none
-    by_test false = refl
 
 -- a row that says an item is an item's
 pub item_row : (c : ℕ) (r : Row) → IsVersion r → (y : HistoryRow) → history_in c r ≡ Some y → IsItemRow r

@@ -10,7 +10,7 @@ use Rattle.std.specs.declared.cmp.Ordering.{Ordering}
 use Rattle.std.specs.declared.cmp.Ordering.TheVariants.{Less, Equal, Greater}
 use Rattle.sqlite_rules.specs.Lists.{Has}
 use Rattle.sqlite_rules.proofs.ListLemmas.{has_filtered}
-use Rattle.gaz_kept.proofs.Pairs.{AreSingle, alike, at_one, found}
+use Rattle.gaz_row_items.proofs.Pairs.{AreSingle, alike, at_one, found}
 
 both : (a b : Bool) → T a → T b → T (a && b)
 both true b p q = q

@@ -27,15 +27,15 @@ use Rattle.gaz_tables.specs.Receiveds.{IsVolume, Rejects}
 use Rattle.gaz_tables.specs.Schema.{received, version2}
 use Rattle.gaz_tables.specs.Stores.{ChangesTable, HasTables}
 use Rattle.gaz_tables.specs.Tables.{rows_of}
+use Rattle.gaz_row_items.specs.Versions.{histories_in, number_in, passages_in, view_in}
+use Rattle.gaz_row_items.proofs.Pairs.{found}
 use Rattle.gaz_kept.specs.Contents.{board_in}
 use Rattle.gaz_kept.specs.Files.{Judged, custodian_in, file_in, files_in, judged_volumes, reached_in, verdicts_in, volume_in}
 use Rattle.gaz_kept.specs.Judging.{AreFiles, Arrives, IsJudged, IsVerdict}
 use Rattle.gaz_kept.specs.Kept.{AreFirst, ArePassages, AreThrough, IsKept, IsVersion}
 use Rattle.gaz_kept.specs.Stands.{CreateStands, ReceiveStands, SkipStands, TablesStand}
-use Rattle.gaz_kept.specs.Versions.{histories_in, number_in, passages_in, view_in}
 use Rattle.gaz_kept.proofs.Boards.{board_adds, board_reads}
 use Rattle.gaz_kept.proofs.Judging.{files_change}
-use Rattle.gaz_kept.proofs.Pairs.{found}
 use Rattle.gaz_kept.proofs.RowsRead.{born_later, whole}
 use Rattle.gaz_kept.proofs.PassageRows.{no_passages, passages_next}
 use Rattle.gaz_kept.proofs.PassageStatements.{passed_later}

@@ -17,12 +17,13 @@ use Rattle.gaz_cells.specs.Reading.{read_cells}
 use Rattle.gaz_overlay.specs.Rows.{HistoryRow}
 use Rattle.gaz_tables.specs.Versions as table
 use Rattle.gaz_tables.specs.Versions.{Closes, gone_at}
+use Rattle.gaz_row_items.specs.Versions.{histories_in, history_in, item_in, living, number_in, passage_in, values_of}
+use Rattle.gaz_row_items.proofs.CustodyFollows.{no_passage}
+use Rattle.gaz_row_items.proofs.Said.{cells_same, not_another, says}
+use Rattle.gaz_row_items.proofs.Unsaid.{passage_none}
 use Rattle.gaz_kept.specs.Histories.{ClosesVersion, InsertAdds, StatementsChange, gone_with}
 use Rattle.gaz_kept.specs.Kept.{AreVersions, IsVersion}
-use Rattle.gaz_kept.specs.Versions.{histories_in, history_in, item_in, living, number_in, passage_in, values_of}
-use Rattle.gaz_kept.proofs.CustodyFollows.{no_passage}
-use Rattle.gaz_kept.proofs.Said.{cells_same, not_another, says}
-use Rattle.gaz_kept.proofs.RowsRead.{IsBirthOf, birth_of, born_as, fits, gone_history, gone_version, history_of, item_of, item_row, its_custodian, kind_row, not_none, passage_none, read_from, read_in, same_added, same_changed, some_same}
+use Rattle.gaz_kept.proofs.RowsRead.{IsBirthOf, birth_of, born_as, fits, gone_history, gone_version, history_of, item_of, item_row, its_custodian, kind_row, not_none, read_from, read_in, same_added, same_changed, some_same}
 
 -- ---- INSERT
 

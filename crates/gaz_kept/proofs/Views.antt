@@ -15,10 +15,10 @@ use Rattle.gaz_records.specs.declared.item.Item.{Item}
 use Rattle.gaz_records.specs.declared.key.Key.{Key}
 use Rattle.gaz_views.specs.View.{empty_view, with_item}
 use Rattle.gaz_overlay.specs.Rows.{HistoryRow, holds_after, is_born_by, never, view_after}
+use Rattle.gaz_row_items.proofs.Pairs.{AreSingle, IsWith, alike, alike_set, inserted, inserted_set}
 use Rattle.gaz_kept.specs.Histories.{Gain, IsNext, RowsGain, RowsJoin, SameRows, with_use}
 use Rattle.gaz_kept.specs.Kept.{AreInTurn, AreThrough}
 use Rattle.gaz_kept.specs.Judging.{AreBornLater}
-use Rattle.gaz_kept.proofs.Pairs.{AreSingle, IsWith, alike, alike_set, inserted, inserted_set}
 
 pub ties : (q k : Key) → q ≡ k → eq_by_cmp key_cmp q k ≡ true
 ties q k is = subst (λ x. eq_by_cmp key_cmp q x ≡ true) is (ap is_eq (tied_itself keys_total q))

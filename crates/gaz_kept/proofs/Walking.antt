@@ -31,11 +31,11 @@ use Rattle.gaz_overlay.specs.declared.touch.NewRow.{NewRow}
 use Rattle.gaz_overlay.specs.declared.touch.Touch.{Touch}
 use Rattle.gaz_overlay.proofs.NextRows.{closes_since}
 use Rattle.gaz_tables.specs.Versions.{Closes}
+use Rattle.gaz_row_items.specs.Versions.{histories_in, living}
+use Rattle.gaz_row_items.proofs.Pairs.{missing, ties_has}
 use Rattle.gaz_kept.specs.Histories.{AddsVersion, AreSame, ClosesVersion, Gain, SamePassages, gone_with}
 use Rattle.gaz_kept.specs.Keeping.{AddsItem, ClosesRow, WritesKey, WritesKeys}
 use Rattle.gaz_kept.specs.Kept.{AreThrough, AreVersions}
-use Rattle.gaz_kept.specs.Versions.{histories_in, living}
-use Rattle.gaz_kept.proofs.Pairs.{missing, ties_has}
 use Rattle.gaz_kept.proofs.Singly.{Current, current_of, singly, singly_kept, singly_only}
 use Rattle.gaz_kept.proofs.RowsRead.{read_from, read_in}
 use Rattle.gaz_kept.proofs.Statements.{AreOnce, closes_version, insert_adds}

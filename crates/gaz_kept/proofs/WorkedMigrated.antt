@@ -20,14 +20,14 @@ use Rattle.gaz_tables.proofs.CreatingExamples.{of_schema_1}
 use Rattle.gaz_tables.proofs.Four.{received_tree}
 use Rattle.gaz_tables.specs.Schema.{first_schema, meta, metas, old_versions, received, version, version2}
 use Rattle.gaz_tables.specs.Tables.{rows_of, tree_named, tree_of}
-use Rattle.gaz_kept.specs.Examples.{changed}
+use Rattle.gaz_row_items.specs.Examples.{changed}
+use Rattle.gaz_row_items.specs.Versions.{histories_in, living, view_in}
+use Rattle.gaz_row_items.proofs.Examples.{said}
 use Rattle.gaz_kept.specs.Migrated.{first_rows}
 use Rattle.gaz_kept.specs.Numbered.{IsNumbered}
 use Rattle.gaz_kept.specs.OpeningFirst.{has_first}
 use Rattle.gaz_kept.specs.WorkedMigrated.{HasMoved, IsMigration, WorkedFirst, WorkedMigrated, WorkedMove, first_101, first_changed, first_database, first_table, first_trees, late_101, moved_changed, moved_rows}
 use Rattle.gaz_kept.specs.WorkedOpening.{others, ours}
-use Rattle.gaz_kept.specs.Versions.{histories_in, living, view_in}
-use Rattle.gaz_kept.proofs.Examples.{said}
 use Rattle.gaz_kept.proofs.WorkedOpening.{differ, first_of}
 
 -- ---- which are taken as one of schema 1

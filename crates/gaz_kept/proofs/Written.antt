@@ -12,8 +12,8 @@ use Rattle.gaz_overlay.specs.Changes.{Changes}
 use Rattle.gaz_overlay.specs.Rows.{HistoryRow, IsCurrent, added, closed, is_of_birth, new_row}
 use Rattle.gaz_overlay.specs.Writings.{writing_at}
 use Rattle.gaz_overlay.specs.declared.touch.NewRow.{NewRow}
+use Rattle.gaz_row_items.proofs.Pairs.{has_tied}
 use Rattle.gaz_kept.specs.Histories.{Close, Gain, gone_with}
-use Rattle.gaz_kept.proofs.Pairs.{has_tied}
 use Rattle.gaz_kept.proofs.Statements.{AreOnce}
 use Rattle.gaz_kept.proofs.Views.{ties}
 

@@ -8,8 +8,8 @@ use Rattle.gaz_keeper.specs.Board.{Board}
 use Rattle.gaz_keeper.specs.Keeper.{Content}
 use Rattle.gaz_tables.specs.Schema.{received, version2}
 use Rattle.gaz_tables.specs.Tables.{rows_of}
+use Rattle.gaz_row_items.specs.Versions.{view_in}
 use Rattle.gaz_kept.specs.Files.{files_in, verdicts_in}
-use Rattle.gaz_kept.specs.Versions.{view_in}
 
 -- each custodian's verdicts, and its views after their volumes
 abbrev pub board_in : List Row → List Row → Board

@@ -11,7 +11,7 @@ use Rattle.gaz_views.specs.declared.verdict.Verdict.{Verdict}
 use Rattle.gaz_views.specs.declared.verdict.Verdict.TheVariants.{Applied, Rejected}
 use Rattle.gaz_keeper.specs.Received.{Received}
 use Rattle.gaz_tables.specs.Receiveds.{bytes_of, cust_of, place_of, rule_of, state_of, volume_of}
-use Rattle.gaz_kept.specs.Versions.{number_in}
+use Rattle.gaz_row_items.specs.Versions.{number_in}
 
 -- bytes, or none where there are none
 abbrev pub bytes_in : Value → List ℕ

@@ -14,8 +14,8 @@ use Rattle.gaz_cells.specs.Ids.{id_of, kind_in}
 use Rattle.gaz_overlay.specs.Rows.{HistoryRow, view_after}
 use Rattle.gaz_sql_facts.specs.Changes.{IsAdded}
 use Rattle.gaz_tables.specs.Versions.{Closes}
+use Rattle.gaz_row_items.specs.Versions.{histories_in, living, passages_in, values_of}
 use Rattle.gaz_kept.specs.Kept.{AreInTurn, AreVersions}
-use Rattle.gaz_kept.specs.Versions.{histories_in, living, passages_in, values_of}
 
 -- the key was used, and nothing stands there that didn't
 abbrev pub with_use : View → Key → View

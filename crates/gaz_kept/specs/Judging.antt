@@ -12,11 +12,11 @@ use Rattle.gaz_overlay.specs.Passages.{PassageRow}
 use Rattle.gaz_overlay.specs.Rows.{HistoryRow, never, view_of_rows}
 use Rattle.gaz_sql_facts.specs.Changes.{IsAdded, IsChanged}
 use Rattle.gaz_tables.specs.Receiveds.{IsVolume, judged, unjudged}
+use Rattle.gaz_row_items.specs.Versions.{histories_in, passages_in, view_in}
 use Rattle.gaz_kept.specs.Contents.{board_in}
 use Rattle.gaz_kept.specs.Files.{custodian_in, files_in, judged_volumes, reached_in, verdict_of}
 use Rattle.gaz_kept.specs.Files.{verdicts_in, volume_in}
 use Rattle.gaz_kept.specs.Kept.{AreFirst, ArePassages, AreThrough, IsFile}
-use Rattle.gaz_kept.specs.Versions.{histories_in, passages_in, view_in}
 
 -- two rows of one volume
 abbrev pub AreOfVolume : Row → Row → Type 0

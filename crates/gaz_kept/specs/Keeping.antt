@@ -1,8 +1,7 @@
 -- What is written when a judgement is kept, and what the tables stand for then.
-use Rattle.std.specs.Prelude.{◌≡◌, ◌==◌, true, ℕ, pos, if◌then◌else◌, List, [], ◌∷◌}
+use Rattle.std.specs.Prelude.{◌≡◌, true, ℕ, if◌then◌else◌, List, [], ◌∷◌}
 use Rattle.std.specs.Prelude.{Option, Some, None, Result, OnOk}
 use Rattle.std.specs.FinMap as finite
-use Rattle.std.specs.String.{string_bytes}
 use Rattle.sqlite.specs.Effect.{Database}
 use Rattle.sqlite.specs.Held.{Held, state}
 use Rattle.sqlite.specs.Order.{Row}
@@ -12,13 +11,11 @@ use Rattle.sqlite_trees.specs.declared.store.Store.{Ghosts}
 use Rattle.gaz_records.specs.Blpus.{is_uprn}
 use Rattle.gaz_records.specs.Items.{is_item}
 use Rattle.gaz_records.specs.Kinds.{number_of}
-use Rattle.gaz_records.specs.declared.item.Item.{Item}
 use Rattle.gaz_records.specs.declared.key.Key.{Key}
 use Rattle.gaz_records.specs.declared.key.Key.TheVariants as key
 use Rattle.gaz_views.specs.View.{View, empty_view}
 use Rattle.gaz_views.specs.declared.verdict.Verdict.TheVariants as verdict
 use Rattle.gaz_views.specs.declared.custody.Custody.{Custody}
-use Rattle.gaz_cells.specs.Columns.{CellsValue}
 use Rattle.gaz_cells.specs.Custody.{custody_kind, is_custody}
 use Rattle.gaz_cells.specs.Ids.{id_of, kind_in}
 use Rattle.gaz_keeper.specs.Board.{Judgement}
@@ -34,15 +31,14 @@ use Rattle.gaz_sql_facts.specs.Changes as table
 use Rattle.gaz_tables.specs.Receiveds.{Applies}
 use Rattle.gaz_tables.specs.Schema.{received, version2}
 use Rattle.gaz_tables.specs.Stores.{AddsRow, ChangesTable, HasTables}
-use Rattle.gaz_tables.specs.Versions.{Closes, version_values}
+use Rattle.gaz_tables.specs.Versions.{Closes}
 use Rattle.gaz_tables.specs.Tables.{rows_of}
+use Rattle.gaz_row_items.specs.NewestPassages.{HasPassage}
+use Rattle.gaz_row_items.specs.Versions.{histories_in, passage_values, passages_in, values_of}
 use Rattle.gaz_kept.specs.Contents.{content_in}
 use Rattle.gaz_kept.specs.Kept.{IsKept}
 use Rattle.gaz_kept.specs.LastViews.{last_in}
-use Rattle.gaz_kept.specs.NewestPassages.{HasPassage}
 use Rattle.gaz_kept.specs.Stands.{Stands, next_in}
-use Rattle.gaz_kept.specs.Versions.{histories_in, passage_values, passages_in, values_of}
-use Rattle.gaz_kept.specs.declared.row_cells.RowCells.{RowCells}
 
 -- ---- what is written
 
@@ -143,29 +139,6 @@ abbrev pub KeepStands : Type 0
 KeepStands = (c volume : ℕ) (changes : Changes) (working : View) (old new : Database)
     → IsToKeep old c volume changes working → KeepsVolume c volume changes old new
     → Applied c working old new
-
--- ---- the cells of a row
-
--- the values of a row of a custodian's, with these cells
-abbrev pub row_values : ℕ → ℕ → ℕ → RowCells → Row
-row_values c born gone cells = version_values c cells.kind (string_bytes cells.id) cells.blpu
-    cells.street cells.lang cells.live born gone (string_bytes cells.body) cells.hop
-
--- they are these, with a hop
-abbrev pub HasCells : CellsValue → ℕ → RowCells → Type 0
-HasCells these hop cells = (c born gone : ℕ) → row_values c born gone cells
-    ≡ version_values c these.kind these.id (pos these.links.blpu) these.links.street
-    these.links.lang (these.links.live == 1) born gone these.body hop
-
--- they are an item's
-abbrev pub AreCellsOf : Item → RowCells → Type 0
-AreCellsOf x cells =
-    (c born gone : ℕ) → row_values c born gone cells ≡ values_of c born gone x
-
--- they are those of what became of a number
-abbrev pub ArePassageCells : ℕ → Custody → RowCells → Type 0
-ArePassageCells uprn custody cells =
-    (c born gone : ℕ) → row_values c born gone cells ≡ passage_values c born gone uprn custody
 
 -- ---- a call on a connection, whose state `g` shows
 

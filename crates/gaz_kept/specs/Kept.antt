@@ -18,9 +18,9 @@ use Rattle.gaz_tables.specs.Stores.{HasTables}
 use Rattle.gaz_tables.specs.Versions.{blpu_of, body_of, born_of, cust_of, gone_of, hop_of, id_of}
 use Rattle.gaz_tables.specs.Versions.{kind_of, lang_of, live_of, street_of}
 use Rattle.gaz_tables.specs.Tables.{rows_of}
+use Rattle.gaz_row_items.specs.Versions.{custody_cells_in, histories_in, item_in, number_in}
+use Rattle.gaz_row_items.specs.Versions.{passages_in, text_in}
 use Rattle.gaz_kept.specs.Files.{bytes_in, judged_volumes, reached_in, volume_in}
-use Rattle.gaz_kept.specs.Versions.{custody_cells_in, histories_in, item_in, number_in, passages_in}
-use Rattle.gaz_kept.specs.Versions.{text_in}
 
 -- ---- values
 

@@ -4,8 +4,8 @@ use Rattle.sqlite.specs.Effect.{Database}
 use Rattle.gaz_views.specs.View.{View}
 use Rattle.gaz_tables.specs.Schema.{received, version2}
 use Rattle.gaz_tables.specs.Tables.{rows_of}
+use Rattle.gaz_row_items.specs.Versions.{view_in}
 use Rattle.gaz_kept.specs.Files.{reached_in}
-use Rattle.gaz_kept.specs.Versions.{view_in}
 
 -- the view after the last volume that is judged
 abbrev pub last_in : Database → ℕ → View

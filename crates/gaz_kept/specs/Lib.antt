@@ -1,14 +1,9 @@
-pub mod Versions
 pub mod Files
 pub mod Contents
 pub mod Kept
-pub mod Decoding
-pub mod Newest
 pub mod LastViews
-pub mod Addresses
 pub mod Histories
 pub mod Passages
-pub mod NewestPassages
 pub mod Judging
 pub mod Stands
 pub mod Keeping

@@ -14,9 +14,9 @@ use Rattle.gaz_overlay.specs.Passages.{PassageRow, custody_after, has_passed}
 use Rattle.gaz_overlay.specs.Rows.{never}
 use Rattle.gaz_sql_facts.specs.Changes.{IsAdded}
 use Rattle.gaz_tables.specs.Versions.{Closes}
+use Rattle.gaz_row_items.specs.Versions.{histories_in, passage_values, passages_in, passing}
 use Rattle.gaz_kept.specs.Histories.{AreSame, Gain}
 use Rattle.gaz_kept.specs.Kept.{ArePassages, AreVersions}
-use Rattle.gaz_kept.specs.Versions.{histories_in, passage_values, passages_in, passing}
 
 -- ---- what a statement makes of the rows
 

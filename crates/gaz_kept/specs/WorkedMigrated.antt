@@ -17,10 +17,10 @@ use Rattle.gaz_tables.specs.Schema.{first_schema, meta, metas, old_versions, rec
 use Rattle.gaz_tables.specs.Schema.{version, version2}
 use Rattle.gaz_tables.specs.Stores.{HasTables}
 use Rattle.gaz_tables.specs.Tables.{rows_of}
-use Rattle.gaz_kept.specs.Examples.{changed, row_101}
+use Rattle.gaz_row_items.specs.Examples.{changed, row_101}
+use Rattle.gaz_row_items.specs.Versions.{values_of, view_in}
 use Rattle.gaz_kept.specs.Migrated.{first_row, first_rows}
 use Rattle.gaz_kept.specs.OpeningFirst.{IsJudgedFirst, has_first}
-use Rattle.gaz_kept.specs.Versions.{values_of, view_in}
 use Rattle.gaz_kept.specs.WorkedOpening.{others, ours}
 use Rattle.gaz_kept.specs.declared.refusal.StoreRefusal.TheVariants.{BadSchema, OtherRegister}
 

@@ -10,12 +10,12 @@ ghost use Rattle.gaz_kept.specs.Keeping.{AddsPassage, EndsRow, WritesNumber, Wri
 ghost use Rattle.gaz_kept.specs.Keeping.{WritesVersions};
 
 use crate::keeping_keys::{end_born, insert_cells};
-use crate::newest::NEVER;
-use crate::row_cells::passage_cells;
 use gaz_cells::CUSTODY;
 use gaz_ids::{Code, Hop, Uprn, Volume};
 use gaz_overlay::Overlay;
 use gaz_records::Key;
+use gaz_row_items::newest::NEVER;
+use gaz_row_items::row_cells::passage_cells;
 use gaz_views::Custody;
 use sqlite::{Alter, Error, Transaction};
 use std::alloc::Global;

@@ -5,7 +5,7 @@ ghost use Rattle.gaz_kept.specs.Judging.{BoardChanges, FilesChange};
 ghost use Rattle.gaz_kept.specs.Keeping.{KeepStands};
 ghost use Rattle.gaz_kept.specs.Migrated.{MigrationStands};
 ghost use Rattle.gaz_kept.specs.Opening.{CreateOpens};
-ghost use Rattle.gaz_kept.specs.PassageExamples.{WorkedPassages};
+ghost use Rattle.gaz_kept.specs.PassageExamples.{WorkedRows};
 ghost use Rattle.gaz_kept.specs.Passages.{PassagesChange};
 ghost use Rattle.gaz_kept.specs.Rewriting.{RewritesStand};
 ghost use Rattle.gaz_kept.specs.Stands.{TablesStand};
@@ -40,9 +40,9 @@ pub fn passages_change()
     ensures { PassagesChange }
 {}
 
-/// What rows of kind 92 say, on worked examples.
+/// Which rows of kind 92 a store keeps, on worked examples.
 pub fn worked_passages()
-    ensures { WorkedPassages }
+    ensures { WorkedRows }
 {}
 
 /// An INSERT into `received` brings a file, and an UPDATE of its state the custodian's next

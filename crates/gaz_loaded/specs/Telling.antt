@@ -10,7 +10,7 @@ use Rattle.gaz_records.specs.Items.{is_entry}
 use Rattle.gaz_keeper.specs.Keeper.{Reads, Seen}
 use Rattle.gaz_keeper.specs.Received.{Received}
 use Rattle.gaz_keeper.specs.declared.fault.ShelfFault.{ShelfFault}
-use Rattle.gaz_kept.specs.Versions.{living}
+use Rattle.gaz_row_items.specs.Versions.{living}
 use Rattle.gaz_loaded.specs.Lives.{IsBy, IsFirst, Told, gone_of}
 use Rattle.gaz_loaded.specs.declared.listed.Life.{Life}
 

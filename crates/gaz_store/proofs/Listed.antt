@@ -19,9 +19,9 @@ use Rattle.gaz_tables.specs.Rowids.{rowid_of}
 use Rattle.gaz_tables.specs.Schema.{version2}
 use Rattle.gaz_tables.specs.Versions.{kind_of}
 use Rattle.gaz_tables.specs.Tables.{rows_of}
+use Rattle.gaz_row_items.specs.Versions.{number_in, passages_in}
+use Rattle.gaz_row_items.proofs.CustodyFollows.{no_item}
 use Rattle.gaz_kept.specs.Kept.{IsItemRow, IsKept, IsVersion}
-use Rattle.gaz_kept.specs.Versions.{number_in, passages_in}
-use Rattle.gaz_kept.proofs.CustodyFollows.{no_item}
 use Rattle.gaz_kept.proofs.RowsRead.{history_of, item_of, item_row, not_none, passage_kind, read_from, read_in, some_same}
 use Rattle.gaz_loaded.proofs.Lives.{by_or_behind}
 use Rattle.gaz_loaded.specs.Lives.{IsBehind, IsBy, Told}

@@ -25,10 +25,10 @@ use Rattle.gaz_overlay.proofs.Making.{changes_make}
 use Rattle.gaz_overlay.proofs.PassedTree.{noted_already, noted_first}
 use Rattle.gaz_tables.specs.Schema.{version2}
 use Rattle.gaz_tables.specs.Tables.{rows_of}
+use Rattle.gaz_row_items.specs.NewestPassages.{HasPassage, born_of, custody_of}
+use Rattle.gaz_row_items.specs.Versions.{histories_in}
+use Rattle.gaz_row_items.specs.declared.passages.Passed.{Passed as Newest}
 use Rattle.gaz_kept.specs.LastViews.{last_in}
-use Rattle.gaz_kept.specs.NewestPassages.{HasPassage, born_of, custody_of}
-use Rattle.gaz_kept.specs.Versions.{histories_in}
-use Rattle.gaz_kept.specs.declared.passages.Passed.{Passed as Newest}
 use Rattle.gaz_calls.specs.Passing.{TellsPassed, passages_of}
 use Rattle.gaz_store.specs.Beside.{IsToldSince, Makes, Turns, with_changes}
 use Rattle.gaz_store.specs.declared.judgement.Judgement.{Judgement}

@@ -17,11 +17,11 @@ use Rattle.gaz_overlay.proofs.Kept.{noted_there}
 use Rattle.gaz_overlay.proofs.Making.{changes_make}
 use Rattle.gaz_tables.specs.Schema.{received, version2}
 use Rattle.gaz_tables.specs.Tables.{rows_of}
+use Rattle.gaz_row_items.specs.Newest.{TellsStood}
+use Rattle.gaz_row_items.specs.Versions.{histories_in}
 use Rattle.gaz_kept.specs.Files.{reached_in}
 use Rattle.gaz_kept.specs.Kept.{IsKept}
 use Rattle.gaz_kept.specs.LastViews.{last_in}
-use Rattle.gaz_kept.specs.Newest.{TellsStood}
-use Rattle.gaz_kept.specs.Versions.{histories_in}
 use Rattle.gaz_kept.proofs.LawfulViews.{view_lawful}
 use Rattle.gaz_store.specs.Beside.{IsReadyAt, IsToldSince, Makes, with_changes}
 use Rattle.gaz_store.specs.declared.judgement.Judgement.{Judgement}

@@ -26,6 +26,7 @@ use Rattle.gaz_keeper.specs.Keeper.{Content, Goes, IsAtHand, IsLawful, after_aba
 use Rattle.gaz_keeper.specs.declared.fault.ShelfFault.{ShelfFault}
 use Rattle.gaz_tables.specs.Schema.{meta, received, version2}
 use Rattle.gaz_tables.specs.Tables.{rows_of}
+use Rattle.gaz_row_items.specs.Versions.{histories_in}
 use Rattle.gaz_kept.specs.Contents.{content_in}
 use Rattle.gaz_kept.specs.Files.{files_in, reached_in}
 use Rattle.gaz_kept.specs.Keeping.{AreToldPassages}
@@ -33,7 +34,6 @@ use Rattle.gaz_kept.specs.Kept.{IsKept}
 use Rattle.gaz_kept.specs.LastViews.{last_in}
 use Rattle.gaz_kept.specs.Opening.{IsOf}
 use Rattle.gaz_kept.specs.Stands.{Stands, next_in}
-use Rattle.gaz_kept.specs.Versions.{histories_in}
 use Rattle.gaz_kept.proofs.Boards.{board_reads}
 use Rattle.gaz_kept.proofs.KeepStands.{keep_stands}
 use Rattle.gaz_kept.proofs.SameTrees.{same_content}

@@ -14,6 +14,7 @@ use Rattle.gaz_views.specs.declared.custody.Custody.{Custody}
 use Rattle.gaz_keeper.specs.Board.{reached}
 use Rattle.gaz_keeper.specs.Received.{count_above}
 use Rattle.gaz_keeper.specs.Telling.{IsCustodyAt, IsItemAt}
+use Rattle.gaz_row_items.specs.Versions.{view_in}
 use Rattle.gaz_kept.proofs.Boards.{board_reads}
 use Rattle.gaz_keeper.specs.Keeper as keeper
 use Rattle.gaz_keeper.specs.Keeper.{IsLawful, IsLeft, Reads, view_of, viewed}
@@ -22,7 +23,6 @@ use Rattle.gaz_tables.specs.Schema.{meta, received, version2}
 use Rattle.gaz_tables.specs.Tables.{rows_of}
 use Rattle.gaz_kept.specs.Contents.{board_of, content_in}
 use Rattle.gaz_kept.specs.Files.{files_in, reached_in}
-use Rattle.gaz_kept.specs.Versions.{view_in}
 use Rattle.gaz_kept.specs.Kept.{IsKept}
 use Rattle.gaz_kept.specs.Opening.{IsOf}
 use Rattle.gaz_kept.specs.LastViews.{last_in}

@@ -24,6 +24,8 @@ use Rattle.gaz_overlay.proofs.Touching.{none_there, unused}
 use Rattle.gaz_ids.specs.declared.lang.Lang.{Lang}
 use Rattle.sqlite_rules.specs.Lists.{Has}
 use Rattle.std.specs.List.{list_any}
+use Rattle.gaz_row_items.specs.Newest.{TellsStood}
+use Rattle.gaz_row_items.specs.Versions.{histories_in}
 use Rattle.gaz_kept.proofs.Rising.{entry_is}
 use Rattle.gaz_answers.proofs.StreetRows.{any_same}
 use Rattle.gaz_answers.specs.Streets.{is_left_on, is_left_part, is_left_tied, leaves}
@@ -41,8 +43,6 @@ use Rattle.gaz_kept.specs.Contents.{content_in}
 use Rattle.gaz_kept.specs.Files.{reached_in}
 use Rattle.gaz_kept.specs.Kept.{IsKept}
 use Rattle.gaz_kept.specs.LastViews.{last_in}
-use Rattle.gaz_kept.specs.Newest.{TellsStood}
-use Rattle.gaz_kept.specs.Versions.{histories_in}
 use Rattle.gaz_store.specs.Beside.{Makes, Turns, with_changes}
 use Rattle.gaz_store.specs.Store.{IsUnderWay, view_made}
 use Rattle.gaz_store.specs.declared.judgement.Judgement.{Judgement}

@@ -15,10 +15,10 @@ use Rattle.gaz_overlay.specs.Over.{Make}
 use Rattle.gaz_overlay.specs.Rows.{AreTold}
 use Rattle.gaz_tables.specs.Schema.{version2}
 use Rattle.gaz_tables.specs.Tables.{rows_of}
+use Rattle.gaz_row_items.specs.NewestPassages.{HasPassage}
+use Rattle.gaz_row_items.specs.Versions.{histories_in}
 use Rattle.gaz_kept.specs.Keeping.{AreToldPassages}
 use Rattle.gaz_kept.specs.LastViews.{last_in}
-use Rattle.gaz_kept.specs.NewestPassages.{HasPassage}
-use Rattle.gaz_kept.specs.Versions.{histories_in}
 use Rattle.gaz_calls.specs.Passing.{MayKnow, passages_of}
 use Rattle.gaz_store.specs.declared.judgement.Judgement.{Judgement}
 

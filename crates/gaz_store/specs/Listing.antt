@@ -12,7 +12,7 @@ use Rattle.gaz_tables.specs.Schema.{version2}
 use Rattle.gaz_tables.specs.Versions.{born_of, cust_of, gone_of}
 use Rattle.gaz_tables.specs.Tables.{rows_of}
 use Rattle.gaz_overlay.specs.Passages.{PassageRow}
-use Rattle.gaz_kept.specs.Versions.{item_in, living, number_in, passages_in}
+use Rattle.gaz_row_items.specs.Versions.{item_in, living, number_in, passages_in}
 use Rattle.gaz_loaded.specs.Lives.{Told}
 use Rattle.gaz_store.specs.Store.{seen_in}
 use Rattle.gaz_store.specs.declared.store.Store.{Store}

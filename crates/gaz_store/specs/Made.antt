@@ -14,11 +14,11 @@ use Rattle.gaz_overlay.specs.Rows.{HistoryRow}
 use Rattle.gaz_tables.specs.Schema.{received, version2}
 use Rattle.gaz_tables.specs.Versions.{born_of, cust_of, gone_of}
 use Rattle.gaz_tables.specs.Tables.{rows_of}
+use Rattle.gaz_row_items.specs.Versions.{histories_in, history_in, item_in, living, number_in}
+use Rattle.gaz_row_items.specs.Versions.{passages_in}
 use Rattle.gaz_kept.specs.Contents.{board_of}
 use Rattle.gaz_kept.specs.Files.{reached_in}
 use Rattle.gaz_kept.specs.Kept.{AreInTurn, ArePassages, IsKept}
-use Rattle.gaz_kept.specs.Versions.{histories_in, history_in, item_in, living, number_in}
-use Rattle.gaz_kept.specs.Versions.{passages_in}
 use Rattle.gaz_kept.proofs.Boards.{board_reads}
 use Rattle.gaz_kept.proofs.LawfulViews.{board_view}
 use Rattle.gaz_kept.proofs.Reached.{reached_room}

@@ -11,10 +11,10 @@ ghost use Rattle.gaz_store.specs.Beside.{IsToldSince, Readies, Turns};
 use gaz_calls::Tables;
 use gaz_ids::{Code, Hop, Uprn};
 use gaz_keeper::ShelfFault;
-use gaz_kept::passages::born_of;
 use gaz_ledger::Seed;
 use gaz_overlay::Overlay;
 use gaz_records::{Key, SharedItem, key_of};
+use gaz_row_items::passages::born_of;
 use sqlite::Alter;
 use std::alloc::Global;
 

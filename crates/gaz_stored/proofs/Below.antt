@@ -8,9 +8,9 @@ use Rattle.gaz_keeper.specs.Keeper as keeper
 use Rattle.gaz_keeper.specs.Keeper.{IsNotOpen, Seen}
 use Rattle.gaz_tables.specs.Schema.{received}
 use Rattle.gaz_tables.specs.Tables.{rows_of}
+use Rattle.gaz_row_items.specs.Versions.{number_in}
 use Rattle.gaz_kept.specs.Contents.{content_in}
 use Rattle.gaz_kept.specs.Kept.{IsKept}
-use Rattle.gaz_kept.specs.Versions.{number_in}
 use Rattle.gaz_kept.proofs.Stands.{are_files, row_of}
 use Rattle.gaz_store.specs.Store.{progress_of, seen_in, working_of}
 use Rattle.gaz_store.specs.declared.progress.Judging.{Judging}

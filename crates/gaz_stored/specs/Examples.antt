@@ -9,7 +9,8 @@ use Rattle.gaz_keeper.specs.Examples.{kept_safe}
 use Rattle.gaz_keeper.specs.Keeper.{empty_content}
 use Rattle.gaz_keeper.specs.declared.shelf.Shelf.{Ghosts}
 use Rattle.gaz_tables.specs.Schema.{receiveds, store_schema, versions}
-use Rattle.gaz_kept.specs.Examples.{four_rows, six_files}
+use Rattle.gaz_row_items.specs.Examples.{four_rows}
+use Rattle.gaz_kept.specs.Examples.{six_files}
 use Rattle.gaz_kept.specs.declared.refusal.StoreRefusal.TheVariants.{BadSchema, Fault}
 use Rattle.gaz_kept.specs.declared.refusal.StoreRefusal.TheVariants.{OtherRegister}
 use Rattle.gaz_steps.specs.Step.{Command, HubState, Submit}

@@ -3,8 +3,8 @@ use Rattle.std.specs.Bool.{if◌then◌else◌}
 use Rattle.gaz_records.specs.Items.{is_item}
 use Rattle.gaz_overlay.specs.Rows.{never}
 use Rattle.gaz_tables.specs.Stores.{AddsRow}
+use Rattle.gaz_row_items.specs.Versions.{values_of}
 use Rattle.gaz_kept.specs.Keeping.{AddsItem, WritesVersions}
-use Rattle.gaz_kept.specs.Versions.{values_of}
 use Rattle.gaz_kept.proofs.Writes.{writes_as}
 use Rattle.gaz_kept.proofs.keeping_keys.add_item.Goals as goal
 

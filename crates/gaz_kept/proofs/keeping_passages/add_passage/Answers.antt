@@ -1,7 +1,8 @@
 use Rattle.std.proofs.Common.{subst}
 use Rattle.gaz_overlay.specs.Rows.{never}
 use Rattle.gaz_tables.specs.Stores.{AddsRow}
-use Rattle.gaz_kept.specs.Keeping.{AddsPassage, row_values}
+use Rattle.gaz_row_items.specs.Cells.{row_values}
+use Rattle.gaz_kept.specs.Keeping.{AddsPassage}
 use Rattle.gaz_kept.proofs.Writes.{writes_as}
 use Rattle.gaz_kept.proofs.keeping_passages.add_passage.Goals as goal
 

@@ -1,5 +1,5 @@
-use Rattle.gaz_kept.proofs.PassageExamples.{passages_hold}
+use Rattle.gaz_kept.proofs.PassageExamples.{rows_hold}
 use Rattle.gaz_kept.proofs.laws.worked_passages.Goals as goal
 
 pub returns : goal.returns
-returns c = passages_hold
+returns c = rows_hold

@@ -2,9 +2,10 @@
 use Rattle.std.proofs.Common.{◌≡◌, [], None, Some, codes, inl, inr, refl, sym, ap, subst}
 use Rattle.std.specs.FinMap as map
 use Rattle.std.specs.Fmt.{digits}
+use Rattle.gaz_row_items.specs.Examples.{four_rows}
 use Rattle.gaz_kept.proofs.Examples.{worked_examples_hold}
 use Rattle.gaz_kept.specs.Contents.{board_in}
-use Rattle.gaz_kept.specs.Examples.{four_rows, six_files}
+use Rattle.gaz_kept.specs.Examples.{six_files}
 use Rattle.gaz_kept.specs.Files.{files_in}
 use Rattle.gaz_keeper.proofs.Pairs.{pairs_total}
 use Rattle.gaz_keeper.specs.Board.{Board, reached, verdict_on}

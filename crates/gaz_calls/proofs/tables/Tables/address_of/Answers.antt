@@ -2,7 +2,7 @@ use Rattle.std.proofs.Common.{IfOk, pos, subst}
 use Rattle.gaz_tables.specs.Schema.{version2}
 use Rattle.gaz_tables.specs.Versions.{FindsApprovedOf}
 use Rattle.gaz_tables.specs.Tables.{rows_of}
-use Rattle.gaz_kept.specs.Addresses.{SaysLeast}
+use Rattle.gaz_row_items.specs.Addresses.{SaysLeast}
 use Rattle.gaz_calls.proofs.Composing.{answered}
 use Rattle.gaz_kept.proofs.KeysTold.{address_of_told}
 use Rattle.gaz_calls.proofs.tables.Tables.address_of.Goals as goal

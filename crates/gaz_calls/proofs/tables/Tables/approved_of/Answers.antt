@@ -2,7 +2,7 @@ use Rattle.std.proofs.Common.{IfOk, pos, subst}
 use Rattle.gaz_tables.specs.Schema.{version2}
 use Rattle.gaz_tables.specs.Versions.{FindsApprovedOf}
 use Rattle.gaz_tables.specs.Tables.{rows_of}
-use Rattle.gaz_kept.specs.Addresses.{SaysKeys}
+use Rattle.gaz_row_items.specs.Addresses.{SaysKeys}
 use Rattle.gaz_calls.proofs.Composing.{answered}
 use Rattle.gaz_kept.proofs.KeysTold.{approved_of_told}
 use Rattle.gaz_calls.proofs.tables.Tables.approved_of.Goals as goal

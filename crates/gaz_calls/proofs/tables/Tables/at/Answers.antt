@@ -1,8 +1,8 @@
 use Rattle.std.proofs.Common.{◌≤◌, ◌∙◌, IfOk, arith, subst}
 use Rattle.gaz_tables.specs.Schema.{received, version2}
 use Rattle.gaz_tables.specs.Tables.{rows_of}
-use Rattle.gaz_kept.specs.Newest.{IsNewestUntil}
-use Rattle.gaz_kept.specs.Versions.{histories_in}
+use Rattle.gaz_row_items.specs.Newest.{IsNewestUntil}
+use Rattle.gaz_row_items.specs.Versions.{histories_in}
 use Rattle.gaz_calls.proofs.Composing.{answered}
 use Rattle.gaz_kept.proofs.KeysTold.{at_told}
 use Rattle.gaz_kept.proofs.Reached.{reached_most}

@@ -1,8 +1,8 @@
 use Rattle.std.proofs.Common.{◌∙◌, IfOk, subst}
 use Rattle.gaz_tables.specs.Schema.{version2}
 use Rattle.gaz_tables.specs.Tables.{rows_of}
-use Rattle.gaz_kept.specs.Newest.{IsNewest}
-use Rattle.gaz_kept.specs.Versions.{histories_in}
+use Rattle.gaz_row_items.specs.Newest.{IsNewest}
+use Rattle.gaz_row_items.specs.Versions.{histories_in}
 use Rattle.gaz_calls.proofs.Composing.{answered}
 use Rattle.gaz_kept.proofs.KeysTold.{current_told}
 use Rattle.gaz_calls.proofs.tables.Tables.current.Goals as goal

@@ -2,9 +2,9 @@ use Rattle.std.proofs.Common.{◌≡◌, ◌≤◌, ◌∙◌, IfOk, ℕ, arith,
 use Rattle.gaz_tables.specs.Schema.{received, version2}
 use Rattle.gaz_tables.specs.Tables.{rows_of}
 use Rattle.gaz_views.specs.View.{custody_at}
+use Rattle.gaz_row_items.specs.NewestPassages.{custody_of}
+use Rattle.gaz_row_items.specs.Versions.{view_in}
 use Rattle.gaz_kept.specs.Files.{reached_in}
-use Rattle.gaz_kept.specs.NewestPassages.{custody_of}
-use Rattle.gaz_kept.specs.Versions.{view_in}
 use Rattle.gaz_calls.proofs.Composing.{answered}
 use Rattle.gaz_kept.proofs.Reached.{reached_most}
 use Rattle.gaz_calls.proofs.tables.Tables.custody_at.Goals as goal

@@ -3,7 +3,7 @@ use Rattle.gaz_records.specs.Kinds.{number_of}
 use Rattle.gaz_tables.specs.Schema.{version2}
 use Rattle.gaz_tables.specs.Versions.{FindsNewest}
 use Rattle.gaz_tables.specs.Tables.{rows_of}
-use Rattle.gaz_kept.specs.Newest.{SaysNewest}
+use Rattle.gaz_row_items.specs.Newest.{SaysNewest}
 use Rattle.gaz_calls.proofs.Composing.{answered, failed}
 use Rattle.gaz_kept.proofs.KeysTold.{newest_of}
 use Rattle.gaz_calls.proofs.tables.Tables.newest.Goals as goal

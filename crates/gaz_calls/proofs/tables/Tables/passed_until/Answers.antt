@@ -2,7 +2,7 @@ use Rattle.std.proofs.Common.{◌∙◌, IfOk, subst}
 use Rattle.gaz_tables.specs.Custody.{FindsCustodyUntil}
 use Rattle.gaz_tables.specs.Schema.{version2}
 use Rattle.gaz_tables.specs.Tables.{rows_of}
-use Rattle.gaz_kept.specs.NewestPassages.{SaysPassage}
+use Rattle.gaz_row_items.specs.NewestPassages.{SaysPassage}
 use Rattle.gaz_calls.proofs.Composing.{answered}
 use Rattle.gaz_calls.proofs.Passed.{passed_until_told}
 use Rattle.gaz_calls.proofs.tables.Tables.passed_until.Goals as goal

@@ -4,9 +4,9 @@ use Rattle.gaz_records.specs.Kinds.{number_of}
 use Rattle.gaz_tables.specs.Schema.{version2}
 use Rattle.gaz_tables.specs.Versions.{FindsNewest}
 use Rattle.gaz_tables.specs.Tables.{rows_of}
+use Rattle.gaz_row_items.specs.Newest.{SaysStood, TellsStood, stood_by}
+use Rattle.gaz_row_items.specs.Versions.{histories_in}
 use Rattle.gaz_kept.specs.LastViews.{last_in}
-use Rattle.gaz_kept.specs.Newest.{SaysStood, TellsStood, stood_by}
-use Rattle.gaz_kept.specs.Versions.{histories_in}
 use Rattle.gaz_calls.proofs.Composing.{answered, failed}
 use Rattle.gaz_calls.proofs.Passed.{stood_told}
 use Rattle.gaz_kept.proofs.KeysTold.{stood_of_rows}

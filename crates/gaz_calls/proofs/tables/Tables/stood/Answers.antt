@@ -1,9 +1,9 @@
 use Rattle.std.proofs.Common.{subst, sym}
 use Rattle.gaz_tables.specs.Schema.{version2}
 use Rattle.gaz_tables.specs.Tables.{rows_of}
+use Rattle.gaz_row_items.specs.Newest.{TellsStood, current_in}
+use Rattle.gaz_row_items.specs.Versions.{histories_in}
 use Rattle.gaz_kept.specs.LastViews.{last_in}
-use Rattle.gaz_kept.specs.Newest.{TellsStood, current_in}
-use Rattle.gaz_kept.specs.Versions.{histories_in}
 use Rattle.gaz_calls.proofs.Answered.{answered_ok}
 use Rattle.gaz_calls.proofs.Passed.{stood_told}
 use Rattle.gaz_calls.proofs.tables.Tables.stood.Goals as goal

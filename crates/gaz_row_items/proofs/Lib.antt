@@ -1,0 +1,10 @@
+pub mod Pairs
+pub mod Decoded
+pub mod Said
+pub mod Unsaid
+pub mod CustodyFollows
+pub mod PassageSaid
+pub mod PassagesAt
+pub mod KeysNamed
+pub mod Examples
+pub mod PassageExamples

@@ -1,0 +1,70 @@
+//! What found rows of addresses say, of id and body.
+ghost use Rattle.std.specs.Prelude.{◌≡◌, map, IfOk, Some};
+ghost use Rattle.sqlite.specs.Order.{column};
+ghost use Rattle.gaz_cells.specs.Ids.{key_named};
+ghost use Rattle.gaz_row_items.specs.Addresses.{SaysAddress, SaysFirst, SaysKeys, SaysLeast};
+ghost use Rattle.gaz_row_items.specs.Versions.{text_in};
+
+use crate::decoding::{RowFault, are_one, item_in, key_in};
+use gaz_overlay::in_order;
+use gaz_records::{Key, Kind, SharedItem};
+use sqlite::Row;
+use std::alloc::Global;
+
+// The keys that the rows name, row by row.
+fn keys_in(alloc: Global, rows: &[Row]) -> Result<Vec<Key>, RowFault>
+    ensures { IfOk result (λ keys. map (λ r. key_named Kind.Lpi (text_in (column r 0))) rows.now
+        ≡ map Some keys.items) }
+{
+    let mut keys = Vec::new(alloc);
+    for row in rows {
+        let key = key_in(Kind::Lpi, row, 0)?;
+        if keys.push(key).is_err() {
+            return Err(RowFault::Memory);
+        }
+    }
+    Ok(keys)
+}
+
+/// The keys that the rows name, in key order. A key that two rows name, as no store writes them,
+/// stands there once.
+pub fn keys_said(alloc: Global, rows: &[Row]) -> Result<Vec<Key>, RowFault>
+    ensures { IfOk result (λ keys. SaysKeys rows.now keys.items) }
+{
+    let named = keys_in(alloc, rows)?;
+    match in_order(alloc, &named) {
+        Ok(keys) => Ok(keys),
+        Err(_) => Err(RowFault::Memory),
+    }
+}
+
+// The address of a key, of which there is a row.
+fn address_said(alloc: Global, key: &Key, rows: &[Row]) -> Result<SharedItem, RowFault>
+    ensures { IfOk result (SaysAddress rows.now key.now) }
+{
+    for row in rows {
+        let found = key_in(Kind::Lpi, row, 0)?;
+        if are_one(&found, key) {
+            return item_in(alloc, key, row, 1);
+        }
+    }
+    Err(RowFault::Wrong)
+}
+
+// The address of the first key, where there is one.
+fn first_said(alloc: Global, keys: &[Key], rows: &[Row]) -> Result<Option<SharedItem>, RowFault>
+    ensures { IfOk result (SaysFirst rows.now keys.now) }
+{
+    match keys.first() {
+        Some(key) => Ok(Some(address_said(alloc, key, rows)?)),
+        None => Ok(None),
+    }
+}
+
+/// The address of the least key that the rows name, where there are rows.
+pub fn least_said(alloc: Global, rows: &[Row]) -> Result<Option<SharedItem>, RowFault>
+    ensures { IfOk result (SaysLeast rows.now) }
+{
+    let keys = keys_said(alloc, rows)?;
+    first_said(alloc, &keys, rows)
+}

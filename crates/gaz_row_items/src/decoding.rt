@@ -1,0 +1,164 @@
+//! What the cells of a found row say: keys by their ids, and items by their bodies.
+ghost use Rattle.std.specs.Prelude.{◌≡◌, ◌<◌, pos, true, IfOk, Ok, Some};
+ghost use Rattle.std.specs.String.{string_bytes};
+ghost use Rattle.sqlite.specs.Order.{column};
+ghost use Rattle.sqlite.specs.declared.types.Value.TheVariants.{Int, Text};
+ghost use Rattle.gaz_records.specs.Keys.{key_of};
+ghost use Rattle.gaz_cells.specs.Ids.{id_of, is_key, key_named, kind_in};
+ghost use Rattle.gaz_row_items.specs.Decoding.{IsBodyOf, IsItemAt};
+ghost use Rattle.gaz_row_items.specs.Versions.{text_in};
+
+use gaz_cells::{Bodies, id_of, key_named};
+use gaz_records::{FieldFault, Item, Key, Kind, SharedItem, item_of_text, key_of};
+use sqlite::Row;
+use sqlite::types::ValueRef;
+use std::alloc::Global;
+
+/// Why a row isn't read.
+#[derive(Clone, Copy)]
+pub enum RowFault {
+    /// Out of memory.
+    Memory,
+    /// No store writes such a row.
+    Wrong,
+}
+
+/// The kind of a key.
+pub fn kind_in(key: &Key) -> Kind
+    ensures { result ≡ kind_in key.now }
+{
+    match key {
+        Key::Street(_) => Kind::Street,
+        Key::Descriptor(_, _) => Kind::Descriptor,
+        Key::Blpu(_) => Kind::Blpu,
+        Key::Xref(_) => Kind::Xref,
+        Key::Lpi(_) => Kind::Lpi,
+    }
+}
+
+/// The text by which the tables name a key among those of its kind.
+pub fn name_of(alloc: Global, key: &Key) -> Result<String, RowFault>
+    ensures name { IfOk result (λ t. string_bytes t ≡ id_of key.now) }
+    ensures form { is_key key.now ≡ true }
+{
+    let Ok(id) = id_of(alloc, key) else {
+        return Err(RowFault::Memory);
+    };
+    match String::from_utf8(id) {
+        Ok(name) => Ok(name),
+        Err(_) => Err(RowFault::Wrong),
+    }
+}
+
+/// The whole number in a column, where one stands there.
+pub fn number(row: &Row, at: usize) -> Result<u64, RowFault>
+    ensures { IfOk result (λ n. column row.now at ≡ Int (pos n)) }
+{
+    match row.get_ref(at) {
+        Ok(ValueRef::Int(n)) if n >= 0 => Ok(n as u64),
+        _ => Err(RowFault::Wrong),
+    }
+}
+
+/// The text in a column, where one stands there.
+pub fn text(row: &Row, at: usize) -> Result<&[u8], RowFault>
+    ensures { IfOk result (λ t. column row.now at ≡ Text t.now) }
+{
+    match row.get_ref(at) {
+        Ok(ValueRef::Text(text)) => Ok(text),
+        _ => Err(RowFault::Wrong),
+    }
+}
+
+/// The key of a kind that the id in a column names.
+pub fn key_in(kind: Kind, row: &Row, at: usize) -> Result<Key, RowFault>
+    ensures { IfOk result (λ k. key_named kind (text_in (column row.now at)) ≡ Some k) }
+{
+    match key_named(kind, text(row, at)?) {
+        Some(key) => Ok(key),
+        None => Err(RowFault::Wrong),
+    }
+}
+
+/// Whether two keys are one.
+pub(crate) fn are_one(a: &Key, b: &Key) -> bool
+    ensures { result ≡ true → a.now ≡ b.now }
+{
+    a.compare(b).is_eq()
+}
+
+// An item, where it stands at the key.
+fn item_at(key: &Key, item: Item) -> Result<Item, RowFault>
+    ensures { IfOk result (λ x. (x ≡ item) × (key_of x ≡ key.now)) }
+{
+    if are_one(&key_of(&item), key) {
+        Ok(item)
+    } else {
+        Err(RowFault::Wrong)
+    }
+}
+
+// The item that was read, where it stands at the key.
+fn read_at(key: &Key, read: Result<Item, FieldFault>) -> Result<Item, RowFault>
+    ensures { IfOk result (λ x. (read ≡ Ok x) × (key_of x ≡ key.now)) }
+{
+    match read {
+        Ok(item) => item_at(key, item),
+        Err(FieldFault::Memory) => Err(RowFault::Memory),
+        Err(_) => Err(RowFault::Wrong),
+    }
+}
+
+// The item of a body, where it stands at the key.
+fn item_of(alloc: Global, key: &Key, body: &[u8]) -> Result<Item, RowFault>
+    ensures { IfOk result (IsBodyOf key.now body.now) }
+{
+    read_at(key, item_of_text(alloc, kind_in(key), body))
+}
+
+// The item of a body, read by a reader of many bodies, where it stands at the key.
+fn next_item(bodies: &mut Bodies<'_>, key: &Key, body: &[u8]) -> Result<Item, RowFault>
+    ensures { IfOk result (IsBodyOf key.now body.now) }
+{
+    read_at(key, bodies.item(kind_in(key), body))
+}
+
+/// The item at a key that the body in a column says.
+pub fn item_in(alloc: Global, key: &Key, row: &Row, at: usize) -> Result<SharedItem, RowFault>
+    ensures { IfOk result (IsItemAt row.now at key.now) }
+{
+    let item = item_of(alloc, key, text(row, at)?)?;
+    match SharedItem::new(alloc, item) {
+        Ok(item) => Ok(item),
+        Err(_) => Err(RowFault::Memory),
+    }
+}
+
+/// The item at a key that the body in a column says, read by a reader of the bodies of many rows.
+pub fn next_item_in(
+    alloc: Global,
+    bodies: &mut Bodies<'_>,
+    key: &Key,
+    row: &Row,
+    at: usize,
+) -> Result<SharedItem, RowFault>
+    ensures { IfOk result (IsItemAt row.now at key.now) }
+{
+    let item = next_item(bodies, key, text(row, at)?)?;
+    match SharedItem::new(alloc, item) {
+        Ok(item) => Ok(item),
+        Err(_) => Err(RowFault::Memory),
+    }
+}
+
+/// The bodies in a column of rows, each ended by LF, as lines for one reader.
+pub fn body_lines(alloc: Global, rows: &[Row], at: usize) -> Result<Vec<u8>, RowFault> {
+    let mut lines = Vec::new(alloc);
+    for row in rows {
+        let body = text(row, at)?;
+        if lines.extend_from_slice(body).is_err() || lines.push(b'\n').is_err() {
+            return Err(RowFault::Memory);
+        }
+    }
+    Ok(lines)
+}

@@ -1,0 +1,97 @@
+//! The row of a key that was born last.
+ghost use Rattle.std.specs.Prelude.{◌≡◌, IfOk};
+ghost use Rattle.gaz_row_items.specs.Newest.{SaysLife, SaysNewest, SaysStood, current_in};
+ghost use Rattle.gaz_row_items.specs.Newest.{item_after, stood_by, stood_of};
+
+use crate::decoding::{RowFault, item_in, number};
+use gaz_overlay::Stood;
+use gaz_records::{Key, SharedItem};
+use sqlite::Row;
+use std::alloc::Global;
+
+/// `gone` of a row that is current: behind the last volume that a custodian can send.
+pub const NEVER: u64 = 1_000_000;
+
+/// An item at its key, and the volumes in which it stands there.
+#[derive(Drop)]
+pub struct Life {
+    /// The volume in which it came, from 1.
+    pub born: u64,
+    /// The volume in which it went, or 1,000,000 while it is current.
+    pub gone: u64,
+    pub item: SharedItem,
+}
+
+// The item at a key that a row of born, gone and body says.
+fn life_in(alloc: Global, key: &Key, row: &Row) -> Result<Life, RowFault>
+    ensures { IfOk result (SaysLife key.now row.now) }
+{
+    Ok(Life {
+        born: number(row, 0)?,
+        gone: number(row, 1)?,
+        item: item_in(alloc, key, row, 2)?,
+    })
+}
+
+/// What the first row says, where there is one.
+pub fn newest_said(alloc: Global, key: &Key, rows: &[Row]) -> Result<Option<Life>, RowFault>
+    ensures { IfOk result (SaysNewest key.now rows.now) }
+{
+    match rows.first() {
+        Some(row) => Ok(Some(life_in(alloc, key, row)?)),
+        None => Ok(None),
+    }
+}
+
+/// The item that holds after a volume.
+pub fn item_after(volume: u64, life: Option<Life>) -> Option<SharedItem>
+    ensures { result ≡ item_after volume life }
+{
+    match life {
+        Some(life) if volume < life.gone => Some(life.item),
+        _ => None,
+    }
+}
+
+/// The item that is current.
+pub fn current_in(life: Option<Life>) -> Option<SharedItem>
+    ensures { result ≡ current_in life }
+{
+    match life {
+        Some(life) if life.gone == NEVER => Some(life.item),
+        _ => None,
+    }
+}
+
+// What stands at a key whose newest row is of these volumes.
+fn stood_of(born: u64, gone: u64) -> Stood
+    ensures { result ≡ stood_of born gone }
+{
+    if gone == NEVER {
+        Stood::Since(born)
+    } else {
+        Stood::Past
+    }
+}
+
+/// What stands at the key.
+pub fn stood_by(life: &Option<Life>) -> Stood
+    ensures { result ≡ stood_by life.now }
+{
+    match life {
+        None => Stood::NoRow,
+        Some(life) => stood_of(life.born, life.gone),
+    }
+}
+
+/// What stands at the key of which the first row is the newest; its item isn't read.
+pub fn stood_said(rows: &[Row]) -> Result<Stood, RowFault>
+    ensures { IfOk result (SaysStood rows.now) }
+{
+    let Some(row) = rows.first() else {
+        return Ok(Stood::NoRow);
+    };
+    let born = number(row, 0)?;
+    let gone = number(row, 1)?;
+    Ok(stood_of(born, gone))
+}
