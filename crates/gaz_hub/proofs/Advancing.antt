@@ -7,7 +7,7 @@ use Rattle.gaz_changefile.specs.Contents.{Contents}
 use Rattle.gaz_changefile.specs.Reading.{Good, Bad, Reading, reading}
 use Rattle.gaz_changefile.specs.declared.change.Basis.{Basis}
 use Rattle.gaz_register.specs.Registers.{Blocks, RegisterValue}
-use Rattle.gaz_keeper.specs.Board.{Board, Judgement, adds, empty_board, reached}
+use Rattle.gaz_keeper.specs.Board.{Board, Judgement, empty_board, reached}
 use Rattle.gaz_keeper.specs.Keeper.{Content, Counts, Enters, IsAtHand, IsNotOpen, Seen, after_abandon, after_skip, with_judgement}
 use Rattle.gaz_keeper.specs.Received.{Received}
 use Rattle.gaz_keeper.specs.declared.fault.ShelfFault.{ShelfFault}

@@ -2,7 +2,6 @@
 use Rattle.std.proofs.Common.{◌≡◌, ◌≤◌, ◌<◌, ℕ, sym, ap, ◌∙◌, subst, arith, inl, inr}
 use Rattle.std.specs.Prelude.{Option, Some, None, Result, Ok, Err, IfErr, IfOk, OnOk}
 use Rattle.std.specs.Option.{option_map, option_map_or}
-use Rattle.gaz_changefile.specs.Reading.{reading}
 use Rattle.gaz_keeper.specs.Board.{Board, verdict_on}
 use Rattle.gaz_keeper.specs.Keeper.{Content, Reads, Seen}
 use Rattle.gaz_keeper.specs.Received.{Received}
