@@ -12,7 +12,6 @@ use Rattle.sqlite.specs.declared.types.Value.TheVariants.{Int}
 use Rattle.sqlite_rules.specs.Lists.{Has}
 use Rattle.sqlite_rules.proofs.ListLemmas.{all_has}
 use Rattle.gaz_records.specs.Items.{is_item}
-use Rattle.gaz_records.specs.declared.key.Key.{Key}
 use Rattle.gaz_records.specs.declared.key.Key.TheVariants as key
 use Rattle.gaz_views.proofs.Judgements.{count_judged, verdict_at, view_judged}
 use Rattle.gaz_views.proofs.Trees.{no_entries}
@@ -24,7 +23,7 @@ use Rattle.gaz_overlay.specs.Rows.{HistoryRow, view_after}
 use Rattle.gaz_tables.specs.Receiveds.{judged}
 use Rattle.gaz_row_items.specs.Examples.{changed, changed_101, four_rows, of_1002}
 use Rattle.gaz_row_items.specs.Versions.{histories_in, living, view_in}
-use Rattle.gaz_row_items.proofs.Examples.{at_1001, histories_1001, said, said_item, usrn_of}
+use Rattle.gaz_row_items.proofs.Examples.{at_1001, histories_1001, not_102, said, said_item}
 use Rattle.gaz_kept.specs.Examples.{WorkedBoard, WorkedExamples, WorkedFiles, WorkedTables, handed_on, held_6, overlapping, rejected_3, six_files, with_a_gap, worked_board}
 use Rattle.gaz_keeper.specs.Board.{verdict_on}
 use Rattle.gaz_keeper.specs.Board as board
@@ -207,10 +206,6 @@ none_apart = record { once = λ a b ha hb key born. absurd ha; in_turn = λ a b 
 
 apart_from : (r : HistoryRow) (rows : List HistoryRow) → AllByRecursion (TakesTurns r) rows → (s : HistoryRow) → Has rows s → TakesTurns r s
 apart_from r rows all s there = all_has (TakesTurns r) rows s all there
-
-not_102 : {A : Type 0} → ◌≡◌ {A = Key} (key.Street 101) (key.Street 102) → A
-unfolding usrn_of
-not_102 e = let clash : ◌≡◌ {A = ℕ} 101 102 = ap usrn_of e in absurd (omega arith)
 
 apart_holds : AreInTurn (histories_in four_rows 1001)
 unfolding TakesTurns

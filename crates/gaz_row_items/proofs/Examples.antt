@@ -124,9 +124,13 @@ newest_101 = record {
 newest_until_1 : IsNewestUntil 1 three (key.Street 101) (Some inserted_101)
 newest_until_1 = record { there = inl refl; of_key = refl; passes = omega arith; last = λ r there same early. early }
 
-pub usrn_of : Key → ℕ
+usrn_of : Key → ℕ
 usrn_of (key.Street n) = n
 usrn_of k = 0
+
+pub not_102 : {A : Type 0} → ◌≡◌ {A = Key} (key.Street 101) (key.Street 102) → A
+unfolding usrn_of
+not_102 e = let clash : ◌≡◌ {A = ℕ} 101 102 = ap usrn_of e in absurd (omega arith)
 
 not_103 : (n : ℕ) → (n ≡ 103 → ⊥) → ◌≡◌ {A = Key} (key.Street n) (key.Street 103) → ⊥
 unfolding usrn_of

@@ -4,13 +4,14 @@ ghost use Rattle.gaz_row_items.specs.Newest.{SaysLife, SaysNewest, SaysStood, cu
 ghost use Rattle.gaz_row_items.specs.Newest.{item_after, stood_by, stood_of};
 
 use crate::decoding::{RowFault, item_in, number};
+use gaz_ids::LAST_VOLUME;
 use gaz_overlay::Stood;
 use gaz_records::{Key, SharedItem};
 use sqlite::Row;
 use std::alloc::Global;
 
 /// `gone` of a row that is current: behind the last volume that a custodian can send.
-pub const NEVER: u64 = 1_000_000;
+pub const NEVER: u64 = LAST_VOLUME + 1;
 
 /// An item at its key, and the volumes in which it stands there.
 #[derive(Drop)]
