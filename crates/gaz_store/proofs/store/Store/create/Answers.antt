@@ -6,6 +6,7 @@ use Rattle.gaz_register.specs.Texts.{register_text}
 use Rattle.gaz_tables.specs.Creating.{HasRoom, IsNewStore, MayCreate}
 use Rattle.gaz_kept.specs.Opening.{Untouched, schema_number}
 use Rattle.gaz_kept.proofs.MetaRows.{any_found}
+use Rattle.gaz_kept.proofs.Moved.{clean_before}
 use Rattle.gaz_store.proofs.Beginning.{is_made}
 use Rattle.gaz_store.proofs.store.Store.create.Goals as goal
 
@@ -28,4 +29,9 @@ returns-in-Ok-clause-untouched g c any =
 -- a store that was there has a table of such a name
 pub returns-in-Err-clause-refused : goal.returns-in-Err-clause-refused
 returns-in-Err-clause-refused g c =
-    record { over = c.in-Err.ensures.over; rests = c.in-Err.ensures.rests; leaves = λ has. (c.in-Err.ensures.untouched (any_found _ has.there)).leaves }
+    record {
+      over = c.in-Err.ensures.over;
+      trust = clean_before (state g.S.Store c.args.conn) (state g.S.Store c.create.new.conn) _ _ c.in-Err.ensures.leaves;
+      rests = c.in-Err.ensures.rests;
+      leaves = λ has. (c.in-Err.ensures.untouched (any_found _ has.there)).leaves;
+    }

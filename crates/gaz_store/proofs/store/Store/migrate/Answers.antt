@@ -64,4 +64,9 @@ returns-in-Ok-clause-moved g c =
 -- no store has the tables of schema 1 alone
 pub returns-in-Err-clause-refused : goal.returns-in-Err-clause-refused
 returns-in-Err-clause-refused g c =
-    record { over = c.in-Err.ensures.over; rests = c.in-Err.ensures.rests; leaves = λ has. (c.in-Err.ensures.untouched (none_first _ has.there)).leaves }
+    record {
+      over = c.in-Err.ensures.over;
+      trust = clean_before (state g.S.Store c.args.conn) (state g.S.Store c.migrate.new.conn) _ _ c.in-Err.ensures.leaves;
+      rests = c.in-Err.ensures.rests;
+      leaves = λ has. (c.in-Err.ensures.untouched (none_first _ has.there)).leaves;
+    }

@@ -32,4 +32,9 @@ returns-in-Ok-clause-leaves g c =
 
 pub returns-in-Err-clause-refused : goal.returns-in-Err-clause-refused
 returns-in-Err-clause-refused g c =
-    record { over = c.in-Err.ensures.over; rests = c.in-Err.ensures.rests; leaves = λ _. c.in-Err.ensures.leaves }
+    record {
+      over = c.in-Err.ensures.over;
+      trust = λ clean. let s = c.in-Err.ensures.leaves in let le = s.clean in omega (arith, le, clean);
+      rests = c.in-Err.ensures.rests;
+      leaves = λ _. c.in-Err.ensures.leaves;
+    }
