@@ -46,10 +46,10 @@ module _ {S D : Type 0} (done : S → Deed D → S → Type 0) (g : disk.Ghosts 
 
   -- a call that was refused
   module _ (files : Files D) (over : OverFiles g files (Some files) (IsRefused over_files)) where
-    abbrev pub in_vain : Opening g
-    in_vain = opening_of files (Called (Declined over))
+    abbrev pub refused_over : Opening g
+    refused_over = opening_of files (Called (Declined over))
 
-    abbrev pub is_call : IsCall g in_vain
+    abbrev pub is_call : IsCall g refused_over
     is_call = record { call = Declined over; is_it = refl }
 
   pub record WorkedSessions : Type 0 where
@@ -100,7 +100,7 @@ module _ {S D : Type 0} (done : S → Deed D → S → Type 0) (g : disk.Ghosts 
         → one.left ≡ None → ¬ AreLinked g (Some files) (one ∷ other ∷ []) has
     -- a call that was refused is a call, and no other opening is
     pub called : (files : Files D) (over : OverFiles g files (Some files) (IsRefused over_files))
-        → IsCall g (in_vain files over)
+        → IsCall g (refused_over files over)
     pub making : (register : RegisterValue) (is : IsRegister register) (files : Files D)
         (over : OverFiles g files (Some files) (Makes g files (Some files) register))
         → ¬ IsCall g (opening_of files (MadeStore register is over))
@@ -110,5 +110,5 @@ module _ {S D : Type 0} (done : S → Deed D → S → Type 0) (g : disk.Ghosts 
     pub ended : (files : Files D)
         (one other : OverFiles g files (Some files) (IsRefused over_files))
         (before : Held (FileStore D g)) → IsUnharmed (file_state other.after)
-        → EndOpen g before (in_vain files one ∷ in_vain files other ∷ [])
-        (is_call files one, is_call files other, tt)
+        → EndOpen g before (refused_over files one ∷ refused_over files other ∷ [])
+        (is_call files one, (is_call files other, tt))
