@@ -17,8 +17,8 @@ use gaz_register::{GrowFault, Register};
 use sqlite::Alter;
 use thiserror::Error;
 
-/// Why a store's register didn't grow. They are looked for in this order; `Memory` may come in
-/// place of any.
+/// Why a store's register didn't grow. They are looked for in this order, but that `Fault` comes
+/// first where it isn't known for that whose the store is; `Memory` may come in place of any.
 #[derive(Clone, Copy, Debug, Error)]
 pub enum ExtendFault {
     #[error("the store is of another register")]

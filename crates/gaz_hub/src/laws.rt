@@ -1,7 +1,6 @@
 //! Laws of calls one after another, over any keeper and over a hub as it is seen.
 ghost use Rattle.gaz_steps.specs.Found.{EveryStopOver};
-ghost use Rattle.gaz_steps.specs.Laws.{CallsMakeRuns, EveryAnswerOver};
-ghost use Rattle.gaz_steps.specs.Laws.{EveryRunFromOver, EverySettledRunFromOver};
+ghost use Rattle.gaz_steps.specs.Laws.{CallsMakeRuns, EveryAnswerOver, EveryRunFromOver};
 ghost use Rattle.gaz_hub.specs.Seen.{hub_seen};
 
 use gaz_keeper::Inbox;
@@ -14,16 +13,10 @@ pub fn calls_make_runs<K: Inbox + Drop>()
 {}
 
 /// Whatever commands come, over any keeper that stood for a partial run of files of known
-/// custodians, it stands for one.
+/// custodians, it stands for one, and after a response that settles the board is the standing one.
 pub fn every_run_from_over<K: Inbox + Drop>()
     ensures keeper { EveryRunFromOver K.seen }
     ensures hub { EveryRunFromOver (hub_seen K.seen) }
-{}
-
-/// After a response that settles, over any such keeper, the board is the standing one.
-pub fn every_settled_run_from_over<K: Inbox + Drop>()
-    ensures keeper { EverySettledRunFromOver K.seen }
-    ensures hub { EverySettledRunFromOver (hub_seen K.seen) }
 {}
 
 /// Each response that settles, over any such keeper, is the one read off the standing board of the

@@ -12,14 +12,14 @@ use Rattle.gaz_keeper.specs.Board.{Board, empty_board, reached}
 use Rattle.gaz_keeper.specs.Keeper.{Content, Seen}
 use Rattle.gaz_keeper.specs.Received.{Received, pair_cmp}
 use Rattle.gaz_steps.specs.Hubs.{MayHave, state_of}
-use Rattle.gaz_steps.specs.Laws.{AllSound, EveryAnswerOver, EveryRunFromOver, EverySettledRunFromOver}
+use Rattle.gaz_steps.specs.Laws.{AllSound, EveryAnswerOver, EveryRunFromOver}
 use Rattle.gaz_steps.specs.Standing.{Leads, judge_one, ready}
 use Rattle.gaz_steps.specs.Step.{Door, blocks}
 use Rattle.gaz_steps.proofs.Added.{added_is}
 use Rattle.gaz_steps.proofs.Answers.{every_answer_holds}
 use Rattle.gaz_steps.proofs.Leading.{follows_itself}
 use Rattle.gaz_steps.proofs.Orders.{ready_gives}
-use Rattle.gaz_steps.proofs.Runs.{every_run_from_holds, every_settled_run_from_holds}
+use Rattle.gaz_steps.proofs.Runs.{every_run_from_holds}
 
 -- ---- over any keeper
 
@@ -37,20 +37,6 @@ every_run_from_over seen d old new commands responses was fine r =
       stands = r.stands was fine;
       abides = every_run_from_holds d (state_of (seen old).content) (state_of (seen new).content) commands responses was.1.partial (r.run was fine);
     }
-
-pub every_settled_run_from_over : {K : Type 0} (seen : K → Seen) → EverySettledRunFromOver seen
-every_settled_run_from_over seen d old new commands responses command response was fine r settles =
-    every_settled_run_from_holds d (state_of (seen new).content)
-    (record {
-      old = state_of (seen old).content;
-      partial = was.1.partial;
-      commands = commands;
-      responses = responses;
-      command = command;
-      response = response;
-      run = r.run was fine;
-      settles = settles;
-    })
 
 pub every_answer_over : {K : Type 0} (seen : K → Seen) → EveryAnswerOver seen
 every_answer_over seen d old new commands responses was fine r =

@@ -1,20 +1,22 @@
 -- Readings over equal received sets, over more files, and of one property.
 use Rattle.std.proofs.Common.{◌≡◌, ◌≤◌, ℕ, cond, List, [], ◌∷◌, ◌++◌, refl, sym, ap, ◌∙◌, subst, le-leb, arith}
-use Rattle.std.specs.Prelude.{Some, None, Ok}
+use Rattle.std.specs.Prelude.{Option, Some, None, Ok}
+use Rattle.std.specs.List.{last_or}
 use Rattle.gaz_extract.specs.Extracts.{extract, extract_rows, items_of}
 use Rattle.gaz_rows.specs.Rows.{lines_of}
 use Rattle.gaz_keeper.specs.Board.{Board, reached}
 use Rattle.gaz_steps.specs.Readings.{EqualAnswers, ExtractsStay, OneHolder}
 use Rattle.gaz_steps.specs.Runs.{Run}
 use Rattle.gaz_steps.specs.Standing.{standing}
-use Rattle.gaz_steps.specs.Step.{Command, Door, HubState, Pose, Replied, Response, Step, answer_to}
+use Rattle.gaz_steps.specs.Step.{Command, Door, HubState, Pose, Replied, Response, Step, Told, answer_to}
+use Rattle.gaz_steps.specs.declared.question.Question.{Question}
 use Rattle.gaz_register.specs.Registers.{owner_of_uprn}
 use Rattle.std.proofs.lemmas.Option.{same_Some}
 use Rattle.gaz_steps.proofs.ChainFine.{one_chain_holds}
 use Rattle.gaz_steps.proofs.Owners.{owners_alone_hold}
 use Rattle.gaz_steps.proofs.Orders.{Below, more_files_hold, view_stays}
 use Rattle.gaz_steps.proofs.Prefixes.{prefix_length}
-use Rattle.gaz_steps.proofs.Runs.{equal_received_holds, judgements_stay_holds}
+use Rattle.gaz_steps.proofs.Runs.{Settles, equal_received_holds, judgements_stay_holds}
 
 -- ---- equal received sets
 
@@ -27,13 +29,17 @@ last_step d old [] (a ∷ (b ∷ responses)) command response hub r = absurd r.2
 last_step d old (c ∷ []) [] command response hub r = absurd r.2
 last_step d old (c ∷ (b ∷ commands)) [] command response hub r = absurd r.2
 
+ends_told : (o : Option Response) (responses : List Response) (q : Question) (told : Told q) → Settles (last_or o (responses ++ Replied q (Ok told) ∷ []))
+ends_told o [] q told = refl
+ends_told o (response ∷ responses) q told = ends_told (Some response) responses q told
+
 pub equal_answers_hold : EqualAnswers
 equal_answers_hold d begun started one other commands others responses replies q told heard from_one from_other r s same =
     let first = last_step d begun commands responses (Pose q) (Replied q (Ok told)) one r in
     let second = last_step d started others replies (Pose q) (Replied q (Ok heard)) other s in
     let alike : other ≡ one = equal_received_holds d one other
-    (record { old = begun; partial = from_one; commands = commands; responses = responses; command = Pose q; response = Replied q (Ok told); run = r; settles = refl })
-    (record { old = started; partial = from_other; commands = others; responses = replies; command = Pose q; response = Replied q (Ok heard); run = s; settles = refl }) same in
+    (record { old = begun; partial = from_one; commands = commands ++ Pose q ∷ []; responses = responses ++ Replied q (Ok told) ∷ []; run = r; settles = ends_told None responses q told })
+    (record { old = started; partial = from_other; commands = others ++ Pose q ∷ []; responses = replies ++ Replied q (Ok heard) ∷ []; run = s; settles = ends_told None replies q heard }) same in
     second.1.1.answer ∙ ap (answer_to q d.register) alike ∙ sym first.1.1.answer
 
 -- ---- reached volumes

@@ -1,7 +1,8 @@
 -- What a run of steps keeps.
-use Rattle.std.proofs.Common.{◌≡◌, ℕ, true, List, [], ◌∷◌, ◌++◌, refl, sym, ap, ◌∙◌, subst}
+use Rattle.std.proofs.Common.{◌≡◌, ℕ, true, false, true≢false, List, [], ◌∷◌, ◌++◌, refl, sym, ap, ◌∙◌, subst}
 use Rattle.std.specs.Prelude.{Option, Some, None}
-use Rattle.std.specs.Option.{option_or}
+use Rattle.std.specs.List.{last_or}
+use Rattle.std.specs.Option.{option_map_or, option_or}
 use Rattle.std.specs.FinMap as map
 use Rattle.gaz_register.specs.Registers.{Owners}
 use Rattle.gaz_chains.specs.Chains.{IsPrefixOf}
@@ -10,7 +11,7 @@ use Rattle.gaz_keeper.specs.Received.{Received, pair_cmp}
 use Rattle.gaz_steps.specs.Standing.{Follows, IsPartial, NothingReady, standing, Leads, judge_one}
 use Rattle.gaz_steps.specs.Outcomes.{outcome}
 use Rattle.gaz_steps.specs.Step.{Command, Door, HubState, Response, Step, blocks, new_hub}
-use Rattle.gaz_steps.specs.Runs.{Run, is_settled, first_received, Abides, AbidesFrom, EveryRun, EveryRunFrom, EverySettledRun, EverySettledRunFrom, EveryRepeat, JudgementsStay, EqualReceived}
+use Rattle.gaz_steps.specs.Runs.{Run, is_settled, first_received, Abides, AbidesFrom, EveryRun, EveryRunFrom, EveryRepeat, JudgementsStay, EqualReceived, SettledRun}
 use Rattle.gaz_steps.proofs.Orders.{any_order_holds, judge_one_moved, moved_below}
 use Rattle.gaz_steps.proofs.Prefixes.{prefix_refl, prefix_trans}
 use Rattle.gaz_steps.proofs.Leading.{follows_itself, follows_more, follows_on}
@@ -36,7 +37,12 @@ partial_next d old command response new partial s =
     let g = goes d old command response new s in
     follows_on (blocks d) new.received empty_board old.board new.board (follows_more (blocks d) old.received new.received g.all empty_board old.board partial) g.board
 
-run_kept : (d : Door) (old : HubState) (commands : List Command) (responses : List Response) (new : HubState) → IsPartial (blocks d) old.received old.board → Run d old commands responses new → AbidesFrom d old commands responses new
+-- what a run receives, and that the board stays partial
+record Kept (d : Door) (old : HubState) (commands : List Command) (responses : List Response) (new : HubState) : Type 0 where
+  first : (p : ℕ × ℕ) → map.get new.received p ≡ option_or (map.get old.received p) (first_received d p commands responses)
+  partial : IsPartial (blocks d) new.received new.board
+
+run_kept : (d : Door) (old : HubState) (commands : List Command) (responses : List Response) (new : HubState) → IsPartial (blocks d) old.received old.board → Run d old commands responses new → Kept d old commands responses new
 run_kept d old [] [] new partial e =
     record {
       first = λ p. ap (λ h. map.get h.received p) e ∙ or_none _;
@@ -52,8 +58,27 @@ run_kept d old (command ∷ commands) (response ∷ responses) new partial r =
 run_kept d old [] (response ∷ responses) new partial r = absurd r
 run_kept d old (command ∷ commands) [] new partial r = absurd r
 
+-- a response settles, if there is one
+pub Settles : Option Response → Type 0
+Settles response = option_map_or is_settled response false ≡ true
+
+-- where the last response settles, or else one before, nothing is ready
+pub settled_after : (o : Option Response) (d : Door) (old : HubState) (commands : List Command) (responses : List Response) (new : HubState) → (Settles o → NothingReady old.received old.board) → Run d old commands responses new
+    → Settles (last_or o responses) → NothingReady new.received new.board
+settled_after o d old [] [] new was e y = subst (λ h. NothingReady h.received h.board) (sym e) (was y)
+settled_after o d old (command ∷ commands) (response ∷ responses) new was r y =
+    settled_after (Some response) d r.0 commands responses new (goes d old command response r.0 r.1).settled r.2 y
+settled_after o d old [] (response ∷ responses) new was r y = absurd r
+settled_after o d old (command ∷ commands) [] new was r y = absurd r
+
 pub every_run_from_holds : EveryRunFrom
-every_run_from_holds d old hub commands responses partial r = run_kept d old commands responses hub partial r
+every_run_from_holds d old hub commands responses partial r =
+    let k = run_kept d old commands responses hub partial r in
+    record {
+      first = k.first;
+      partial = k.partial;
+      settled = λ y. any_order_holds (blocks d) hub.received hub.board k.partial (settled_after None d old commands responses hub (λ no. absurd (true≢false (sym no))) r y);
+    }
 
 -- what began with nothing
 pub nothing_partial : (d : Door) → IsPartial (blocks d) new_hub.received new_hub.board
@@ -65,30 +90,12 @@ abides_after d old commands responses hub e k =
     record {
       first = λ p. k.first p ∙ ap (λ o. option_or o (first_received d p commands responses)) (ap (λ (h : HubState). map.get h.received p) e ∙ map.get-empty pair_cmp p);
       partial = k.partial;
+      settled = k.settled;
     }
 
 pub every_run_holds : EveryRun
 every_run_holds d commands responses hub r =
-    abides_after d new_hub commands responses hub refl (run_kept d new_hub commands responses hub (nothing_partial d) r)
-
-last_settled : (d : Door) (old : HubState) (commands : List Command) (responses : List Response) (command : Command) (response : Response) (hub : HubState) → Run d old (commands ++ command ∷ []) (responses ++ response ∷ []) hub → is_settled response ≡ true → NothingReady hub.received hub.board
-last_settled d old [] [] command response hub r y =
-    subst (λ h. NothingReady h.received h.board) (sym r.2) ((goes d old command response r.0 r.1).settled y)
-last_settled d old (c ∷ commands) (a ∷ responses) command response hub r y = last_settled d r.0 commands responses command response hub r.2 y
-last_settled d old [] (a ∷ []) command response hub r y = absurd r.2
-last_settled d old [] (a ∷ (b ∷ responses)) command response hub r y = absurd r.2
-last_settled d old (c ∷ []) [] command response hub r y = absurd r.2
-last_settled d old (c ∷ (b ∷ commands)) [] command response hub r y = absurd r.2
-
-pub every_settled_run_from_holds : EverySettledRunFrom
-every_settled_run_from_holds d hub s =
-    any_order_holds (blocks d) hub.received hub.board (run_kept d s.old _ _ hub s.partial s.run).partial
-    (last_settled d s.old s.commands s.responses s.command s.response hub s.run s.settles)
-
-pub every_settled_run_holds : EverySettledRun
-every_settled_run_holds d commands responses command response hub r y =
-    every_settled_run_from_holds d hub
-    (record { old = new_hub; partial = nothing_partial d; commands = commands; responses = responses; command = command; response = response; run = r; settles = y })
+    abides_after d new_hub commands responses hub refl (every_run_from_holds d new_hub hub commands responses (nothing_partial d) r)
 
 -- ---- one step more
 
@@ -108,9 +115,11 @@ judgements_stay_holds d old new command response s c =
 pub same_state : (one other : HubState) → other.received ≡ one.received → other.board ≡ one.board → other ≡ one
 same_state one other e f = λ i. record { received = e i; board = f i }
 
+stands_after : (d : Door) (hub : HubState) → SettledRun d hub → hub.board ≡ standing (blocks d) hub.received
+stands_after d hub s = (every_run_from_holds d s.old hub s.commands s.responses s.partial s.run).settled s.settles
+
 pub equal_received_holds : EqualReceived
-equal_received_holds d one other x y e =
-    same_state one other e (every_settled_run_from_holds d other y ∙ ap (standing (blocks d)) e ∙ sym (every_settled_run_from_holds d one x))
+equal_received_holds d one other x y e = same_state one other e (stands_after d other y ∙ ap (standing (blocks d)) e ∙ sym (stands_after d one x))
 
 pub every_repeat_holds : EveryRepeat
 every_repeat_holds d old new c volume bytes told partial closed s =

@@ -25,6 +25,9 @@ worked_growth_hold = record {
   of_none = refl;
   asked = refl;
   said = refl;
+  settles = refl;
+  refused_settles_nothing = refl;
+  settles_still = refl;
   under_two = λ under. let three : 3 ≡ 4 = ap length under.0 in cc;
   under_one = (refl, tt);
   never_lost = λ e abides.

@@ -12,7 +12,7 @@ use Rattle.gaz_steps.specs.Standing.{standing}
 use Rattle.gaz_steps.specs.Step.{HubState, Submit, Submitted, new_hub, told_of}
 use Rattle.gaz_steps.specs.declared.answer.Answer.TheVariants.{New}
 use Rattle.gaz_steps.specs.declared.outcome.Outcome.TheVariants.{Rejected, Held}
-use Rattle.gaz_steps.specs.Examples.{all_sent, first_hub, gap_hub, no_text, sent}
+use Rattle.gaz_steps.specs.Examples.{all_sent, first_hub, gap_hub, no_text, no_text_judged, sent}
 use Rattle.gaz_steps.specs.WorkedRuns.{WorkedFirsts, WorkedReadOff, WorkedResponses, WorkedRuns, WorkedWholes, answers, sending, wrong_answers}
 use Rattle.gaz_steps.proofs.Examples.{get_all, get_first, get_sent, no_none, stands_all, stands_sent}
 use Rattle.gaz_steps.proofs.Answers.{every_answer_holds}
@@ -29,6 +29,9 @@ on_responses = record {
   stands_settles_nothing = refl;
   settled_settles = refl;
   given_up_settles_nothing = refl;
+  last_settles = refl;
+  one_before_alone = refl;
+  nothing_was_said = refl;
   for_51 = refl;
   for_52 = refl;
   answered_51 = refl;
@@ -105,6 +108,7 @@ on_wholes = record {
   abides = every_run_holds sample_door sending answers gap_hub runs;
   never_with_less = λ a. no_none _ _ (a.first (1003, 3)) (get_first (1003, 3));
   never_with_more = λ a. no_none _ _ (get_all (1003, 2)) (a.first (1003, 2));
+  never_unjudged = λ a. let no : [] ≡ no_text_judged ∷ [] = ap (λ B. B 1003) (a.settled refl ∙ stands_sent) in cc;
   repeat_changes_nothing = record { same = refl; outcome_is = told_first };
   repeat_never_adds = λ n. no_none _ _ (get_all (1003, 2)) (ap (λ h. map.get h.received (1003, 2)) n.same ∙ get_sent (1003, 2));
   repeat_never_tells_another = λ n. let e : Some (Rejected 1 1) ≡ Some (Held 1003 2) = sym told_first ∙ n.outcome_is in cc;

@@ -1,16 +1,17 @@
 -- A register that grows beneath a hub: what stays, and runs over registers of which each extends
 -- the one before.
-use Rattle.std.specs.Prelude.{◌≡◌, ◌++◌, ⊤, ℕ, List, [], ◌∷◌, Option, None}
+use Rattle.std.specs.Prelude.{◌≡◌, ◌++◌, ⊤, ℕ, true, List, [], ◌∷◌, Option, None}
 use Rattle.std.specs.FinMap as map
 use Rattle.std.specs.Option.{option_or}
 use Rattle.gaz_register.specs.Growing.{Extends}
 use Rattle.gaz_register.specs.Registers.{IsRegister, RegisterValue, blocks_of}
+use Rattle.gaz_chains.specs.Chains.{IsPrefixOf}
 use Rattle.gaz_keeper.specs.Board.{Board}
 use Rattle.gaz_keeper.specs.Keeper.{Seen}
-use Rattle.gaz_keeper.specs.Received.{Received}
+use Rattle.gaz_keeper.specs.Received.{HasAllOf, Received}
 use Rattle.gaz_steps.specs.Answers.{AllReadOff, received_by}
 use Rattle.gaz_steps.specs.Hubs.{AreKnown, StandsFor, door_of}
-use Rattle.gaz_steps.specs.Runs.{Run, first_received}
+use Rattle.gaz_steps.specs.Runs.{Run, ends_settled, first_received}
 use Rattle.gaz_steps.specs.Standing.{IsPartial, standing}
 use Rattle.gaz_steps.specs.Step.{Command, HubState, Response, answer_to, refusal_at_door}
 use Rattle.gaz_steps.specs.declared.question.Question.{Question}
@@ -30,6 +31,10 @@ pub record GrowthKeeps : Type 0 where
   pub standing : (old grown : RegisterValue) (files : Received) → Extends old grown
       → AreKnown (door_of old) files
       → standing (blocks_of grown) files ≡ standing (blocks_of old) files
+  -- with more files each custodian's judgements go on from where they were
+  pub more : (old grown : RegisterValue) (files bigger : Received) → Extends old grown
+      → AreKnown (door_of old) files → HasAllOf bigger files → (c : ℕ)
+      → IsPrefixOf (standing (blocks_of old) files c) (standing (blocks_of grown) bigger c)
 
 -- a keeper that stood for a partial run stands for one under the grown register
 abbrev pub GrowthStands : {K : Type 0} → (K → Seen) → Type 0
@@ -107,13 +112,16 @@ PeriodsAreOneRun =
     → Run (door_of register) old (asked_in periods) (said_in periods) new
 
 -- after it: what is received is what was there before and then what came first; its custodians are
--- known to the last register, and the board is partial under that
+-- known to the last register, and the board is partial under that, and the standing one where the
+-- last thing that was said settles
 pub record AbidesGrown (register : RegisterValue) (old : HubState) (periods : List Period)
     (new : HubState) : Type 0 where
   pub first : (p : ℕ × ℕ)
       → map.get new.received p ≡ option_or (map.get old.received p) (first_ever p periods)
   pub known : AreKnown (door_of (last_register register periods)) new.received
   pub partial : IsPartial (blocks_of (last_register register periods)) new.received new.board
+  pub settled : ends_settled (said_in periods) ≡ true
+      → new.board ≡ standing (blocks_of (last_register register periods)) new.received
   pub answers : AllReadOffGrown old.received periods
 
 -- whatever commands come, and however often the register grows between them
@@ -123,3 +131,22 @@ EveryGrownRun =
     → AreKnown (door_of register) old.received
     → IsPartial (blocks_of register) old.received old.board → GrownRun register old periods new
     → AbidesGrown register old periods new
+
+-- periods from a partial board to this hub, of which the last thing that was said settles
+pub record SettledGrownRun (last : RegisterValue) (hub : HubState) : Type 0 where
+  pub register : RegisterValue
+  pub old : HubState
+  pub known : AreKnown (door_of register) old.received
+  pub partial : IsPartial (blocks_of register) old.received old.board
+  pub periods : List Period
+  pub run : GrownRun register old periods hub
+  pub last_is : last_register register periods ≡ last
+  pub settles : ends_settled (said_in periods) ≡ true
+
+-- two such under one register in the end, with equal received sets, leave equal hubs, whatever came
+-- in whatever order, and whenever the register grew
+abbrev pub EqualGrown : Type 0
+EqualGrown =
+    (last : RegisterValue) (one other : HubState)
+    → SettledGrownRun last one → SettledGrownRun last other
+    → other.received ≡ one.received → other ≡ one

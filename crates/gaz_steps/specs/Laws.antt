@@ -9,9 +9,9 @@ use Rattle.gaz_rules.specs.Sound.{IsSoundBoard}
 use Rattle.gaz_steps.specs.Answers.{AllAnswered}
 use Rattle.gaz_steps.specs.Hubs.{Runs, StandsFor, Steps, state_of}
 use Rattle.gaz_steps.specs.Outcomes.{outcome}
-use Rattle.gaz_steps.specs.Runs.{AbidesFrom, is_settled}
-use Rattle.gaz_steps.specs.Standing.{IsPartial, NothingReady, standing}
-use Rattle.gaz_steps.specs.Step.{Command, Door, HubState, Pose, Replied, Response, Step, blocks}
+use Rattle.gaz_steps.specs.Runs.{AbidesFrom}
+use Rattle.gaz_steps.specs.Standing.{IsPartial, NothingReady}
+use Rattle.gaz_steps.specs.Step.{Command, Door, HubState, Pose, Replied, Response, Step}
 use Rattle.gaz_steps.specs.Step.{is_volume}
 use Rattle.gaz_steps.specs.declared.question.Question.TheVariants.{Ask}
 
@@ -54,7 +54,8 @@ pub record CallsMakeRuns {K : Type 0} (seen : K → Seen) : Type 0 where
 
 -- ---- over a keeper that stands for a partial run
 
--- the keeper still does: of what was there before and then of what came first
+-- the keeper still does: of what was there before and then of what came first, and of the standing
+-- board where the last response settles
 pub record StandsFrom (door : Door) (old : Seen) (commands : List Command)
     (responses : List Response) (new : Seen) : Type 0 where
   pub stands : StandsFor door new
@@ -67,16 +68,6 @@ EveryRunFromOver {K} seen =
     → StandsFor door (seen old) → (seen new).unharmed
     → Runs door (seen old) (seen new) commands responses
     → StandsFrom door (seen old) commands responses (seen new)
-
--- after a response that settles, the board is the standing one
-abbrev pub EverySettledRunFromOver : {K : Type 0} → (K → Seen) → Type 0
-EverySettledRunFromOver {K} seen =
-    (door : Door) (old new : K) (commands : List Command) (responses : List Response)
-    (command : Command) (response : Response)
-    → StandsFor door (seen old) → (seen new).unharmed
-    → Runs door (seen old) (seen new) (commands ++ command ∷ []) (responses ++ response ∷ [])
-    → is_settled response ≡ true
-    → (seen new).content.board ≡ standing (blocks door) (seen new).content.files
 
 -- each answer is read off the standing board of the files that are received by then
 abbrev pub EveryAnswerOver : {K : Type 0} → (K → Seen) → Type 0

@@ -1,7 +1,8 @@
 -- Whole runs of a hub, and what holds after each.
 use Rattle.std.specs.Prelude.{◌≡◌, ℕ, Bool, true, false, not, ◌&&◌, if◌then◌else◌, List, [], ◌∷◌}
-use Rattle.std.specs.Prelude.{◌++◌, is_none, is_ok, Option, Some, None}
-use Rattle.std.specs.Option.{option_or}
+use Rattle.std.specs.Prelude.{is_none, is_ok, Option, Some, None}
+use Rattle.std.specs.List.{last_or}
+use Rattle.std.specs.Option.{option_map_or, option_or}
 use Rattle.std.specs.Ordering.{eq_by_cmp}
 use Rattle.std.specs.FinMap as map
 use Rattle.gaz_chains.specs.Chains.{IsPrefixOf}
@@ -36,6 +37,10 @@ abbrev pub is_settled : Response → Bool
 is_settled (Submitted answer) = is_settled_answer answer
 is_settled (Replied q reply) = is_ok reply
 
+-- the last of these responses does
+abbrev pub ends_settled : List Response → Bool
+ends_settled responses = option_map_or is_settled (last_or None responses) false
+
 abbrev pub same_pair : ℕ × ℕ → ℕ × ℕ → Bool
 same_pair = eq_by_cmp pair_cmp
 
@@ -68,13 +73,14 @@ first_received door p _ _ = None
 -- ---- the laws of whole runs
 
 -- what is received is what was there before and then what came first, and the board is partial over
--- it
+-- it; where the last response settles it is the standing one
 pub record AbidesFrom (door : Door) (old : HubState) (commands : List Command)
     (responses : List Response) (hub : HubState) : Type 0 where
   pub first : (p : ℕ × ℕ)
       → map.get hub.received p
       ≡ option_or (map.get old.received p) (first_received door p commands responses)
   pub partial : IsPartial (blocks door) hub.received hub.board
+  pub settled : ends_settled responses ≡ true → hub.board ≡ standing (blocks door) hub.received
 
 -- whatever commands come to a hub whose board is partial, in whatever order
 abbrev pub EveryRunFrom : Type 0
@@ -83,28 +89,13 @@ EveryRunFrom =
     → IsPartial (blocks door) old.received old.board → Run door old commands responses hub
     → AbidesFrom door old commands responses hub
 
--- a run from a partial board to this hub, whose last response settles
-pub record SettledRun (door : Door) (hub : HubState) : Type 0 where
-  pub old : HubState
-  pub partial : IsPartial (blocks door) old.received old.board
-  pub commands : List Command
-  pub responses : List Response
-  pub command : Command
-  pub response : Response
-  pub run : Run door old (commands ++ command ∷ []) (responses ++ response ∷ []) hub
-  pub settles : is_settled response ≡ true
-
--- after it the board is the standing one
-abbrev pub EverySettledRunFrom : Type 0
-EverySettledRunFrom =
-    (door : Door) (hub : HubState) → SettledRun door hub
-    → hub.board ≡ standing (blocks door) hub.received
-
--- what was received is what came first, and the board is partial over it
+-- what was received is what came first, and the board is partial over it; where the last response
+-- settles it is the standing one
 pub record Abides (door : Door) (commands : List Command) (responses : List Response)
     (hub : HubState) : Type 0 where
   pub first : (p : ℕ × ℕ) → map.get hub.received p ≡ first_received door p commands responses
   pub partial : IsPartial (blocks door) hub.received hub.board
+  pub settled : ends_settled responses ≡ true → hub.board ≡ standing (blocks door) hub.received
 
 -- what is received comes first and the board is partial, whatever commands come to a hub that
 -- begins with nothing
@@ -112,13 +103,6 @@ abbrev pub EveryRun : Type 0
 EveryRun =
     (door : Door) (commands : List Command) (responses : List Response) (hub : HubState)
     → Run door new_hub commands responses hub → Abides door commands responses hub
-
-abbrev pub EverySettledRun : Type 0
-EverySettledRun =
-    (door : Door) (commands : List Command) (responses : List Response) (command : Command)
-    (response : Response) (hub : HubState)
-    → Run door new_hub (commands ++ command ∷ []) (responses ++ response ∷ []) hub
-    → is_settled response ≡ true → hub.board ≡ standing (blocks door) hub.received
 
 -- a repeat changes nothing where all was settled, and is answered by the outcome then standing
 pub record ChangesNothing (door : Door) (old : HubState) (c volume : ℕ) (told : Outcome)
@@ -138,6 +122,15 @@ abbrev pub JudgementsStay : Type 0
 JudgementsStay =
     (door : Door) (old new : HubState) (command : Command) (response : Response)
     → Step door old command response new → (c : ℕ) → IsPrefixOf (old.board c) (new.board c)
+
+-- a run from a partial board to this hub, whose last response settles
+pub record SettledRun (door : Door) (hub : HubState) : Type 0 where
+  pub old : HubState
+  pub partial : IsPartial (blocks door) old.received old.board
+  pub commands : List Command
+  pub responses : List Response
+  pub run : Run door old commands responses hub
+  pub settles : ends_settled responses ≡ true
 
 -- two runs that end settled and with equal received sets leave equal hubs, whatever came and in
 -- whatever order

@@ -1,12 +1,12 @@
 -- Worked examples on a register that grows beneath a hub.
-use Rattle.std.specs.Prelude.{◌≡◌, List, [], ◌∷◌, ◌++◌, None, Some, codes}
+use Rattle.std.specs.Prelude.{◌≡◌, true, false, List, [], ◌∷◌, ◌++◌, None, Some, codes}
 use Rattle.gaz_changefile.specs.Profile.{profile_of}
 use Rattle.gaz_register.specs.Growing.{Extends}
 use Rattle.gaz_register.specs.Registers.{RegisterValue}
 use Rattle.gaz_steps.specs.Growth.{AbidesGrown, AreUnder, Period, asked_in, first_ever}
 use Rattle.gaz_steps.specs.Growth.{last_register, said_in}
 use Rattle.gaz_steps.specs.Hubs.{door_of}
-use Rattle.gaz_steps.specs.Runs.{first_received}
+use Rattle.gaz_steps.specs.Runs.{ends_settled, first_received}
 use Rattle.gaz_steps.specs.Sample.{sample_custodians}
 use Rattle.gaz_steps.specs.Step.{Command, Response, Submit, Submitted, new_hub}
 use Rattle.gaz_steps.specs.declared.answer.Answer.TheVariants.{New, Refused}
@@ -54,6 +54,12 @@ pub record WorkedGrowth : Type 0 where
   -- all that was asked and said; and the two are under no one register
   pub asked : asked_in sends_twice ≡ sends ++ sends
   pub said : said_in sends_twice ≡ refused ++ answered
+  -- the last answer of the second settles, that of the first doesn't, and one that asks nothing
+  -- behind them changes nothing
+  pub settles : ends_settled (said_in sends_twice) ≡ true
+  pub refused_settles_nothing : ends_settled refused ≡ false
+  pub settles_still : ends_settled (said_in (sends_twice
+      ++ record { register = with_new_town; commands = []; responses = [] } ∷ [])) ≡ true
   pub under_two : AreUnder with_new_town sends_twice → ⊥
   pub under_one : AreUnder sample_custodians
       (record { register = sample_custodians; commands = sends; responses = refused } ∷ [])

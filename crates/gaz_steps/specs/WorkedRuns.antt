@@ -3,9 +3,9 @@ use Rattle.std.specs.Prelude.{◌≡◌, true, false, List, [], ◌∷◌, Some,
 use Rattle.gaz_keeper.specs.declared.fault.ShelfFault.TheVariants as fault
 use Rattle.std.specs.FinMap as map
 use Rattle.gaz_steps.specs.Answers.{AllReadOff, IsReadOff, received_by, then_received}
-use Rattle.gaz_steps.specs.Runs.{Abides, ChangesNothing, Run, accepted, first_received}
-use Rattle.gaz_steps.specs.Runs.{is_answered_51, is_not_received, is_settled, is_settled_answer}
-use Rattle.gaz_steps.specs.Runs.{same_pair}
+use Rattle.gaz_steps.specs.Runs.{Abides, ChangesNothing, Run, accepted, ends_settled}
+use Rattle.gaz_steps.specs.Runs.{first_received, is_answered_51, is_not_received, is_settled}
+use Rattle.gaz_steps.specs.Runs.{is_settled_answer, same_pair}
 use Rattle.gaz_steps.specs.Step.{Command, HubState, Pose, Replied, Response, Submit, Submitted}
 use Rattle.gaz_steps.specs.Step.{new_hub}
 use Rattle.gaz_steps.specs.Sample.{sample_door}
@@ -14,7 +14,8 @@ use Rattle.gaz_steps.specs.declared.outcome.Outcome.TheVariants.{Rejected, Held}
 use Rattle.gaz_steps.specs.declared.question.Question.TheVariants.{Ask, Settle, Stand}
 use Rattle.gaz_steps.specs.declared.refusal.DoorRefusal.TheVariants as at_door
 use Rattle.gaz_steps.specs.declared.refusal.Refusal.TheVariants as refusal
-use Rattle.gaz_steps.specs.Examples.{first_hub, first_sent, gap_hub, no_text, sent, whole_hub}
+use Rattle.gaz_steps.specs.Examples.{first_hub, first_sent, gap_hub, late_hub, no_text, sent}
+use Rattle.gaz_steps.specs.Examples.{whole_hub}
 
 -- what answers say of what was received and of what is settled
 pub record WorkedResponses : Type 0 where
@@ -28,6 +29,11 @@ pub record WorkedResponses : Type 0 where
   pub settled_settles : is_settled (Replied Settle (Ok tt)) ≡ true
   pub given_up_settles_nothing : is_settled
       (Replied Settle (Err (refusal.NotReceived fault.Memory))) ≡ false
+  pub last_settles : ends_settled (Submitted (Refused (refusal.NotReceived fault.Memory))
+      ∷ Replied Settle (Ok tt) ∷ []) ≡ true
+  pub one_before_alone : ends_settled (Replied Settle (Ok tt)
+      ∷ Submitted (Refused (refusal.NotReceived fault.Memory)) ∷ []) ≡ false
+  pub nothing_was_said : ends_settled [] ≡ false
   pub for_51 : is_not_received (refusal.NotReceived fault.Memory) ≡ true
   pub for_52 : is_not_received (refusal.ReceivedUnsettled fault.Memory) ≡ false
   pub answered_51 : is_answered_51 (Refused (refusal.NotReceived fault.Memory)) ≡ true
@@ -106,6 +112,7 @@ pub record WorkedWholes : Type 0 where
   pub abides : Abides sample_door sending answers gap_hub
   pub never_with_less : Abides sample_door sending answers first_hub → ⊥
   pub never_with_more : Abides sample_door sending answers whole_hub → ⊥
+  pub never_unjudged : Abides sample_door sending answers late_hub → ⊥
   pub repeat_changes_nothing : ChangesNothing sample_door gap_hub 1003 1 (Rejected 1 1) gap_hub
   pub repeat_never_adds : ChangesNothing sample_door gap_hub 1003 1 (Rejected 1 1) whole_hub → ⊥
   pub repeat_never_tells_another : ChangesNothing sample_door gap_hub 1003 1 (Held 1003 2) gap_hub

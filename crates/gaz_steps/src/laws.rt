@@ -2,14 +2,15 @@
 ghost use Rattle.gaz_steps.specs.Answers.{EveryAnswer};
 ghost use Rattle.gaz_steps.specs.Chains.{ChainsAreShort, ChainsGrow, ChainsOfBoards, FindsHolders};
 ghost use Rattle.gaz_steps.specs.Chains.{OneChain, UnallottedStay};
-ghost use Rattle.gaz_steps.specs.Growth.{AnswersStay, EveryGrownRun, GrowthKeeps, GrowthStands};
+ghost use Rattle.gaz_steps.specs.Growth.{AnswersStay, EqualGrown, EveryGrownRun, GrowthKeeps};
+ghost use Rattle.gaz_steps.specs.Growth.{GrowthStands};
 ghost use Rattle.gaz_steps.specs.Growth.{PeriodsAreOneRun};
 ghost use Rattle.gaz_steps.specs.Laws.{AllSound, EachIsTold};
 ghost use Rattle.gaz_steps.specs.Owners.{OwnersAlone};
 ghost use Rattle.gaz_steps.specs.ReadBack.{BoardsReadBack};
 ghost use Rattle.gaz_steps.specs.Readings.{EqualAnswers, ExtractsStay, OneHolder};
 ghost use Rattle.gaz_steps.specs.Runs.{EqualReceived, EveryRepeat, EveryRun, EveryRunFrom};
-ghost use Rattle.gaz_steps.specs.Runs.{EverySettledRun, EverySettledRunFrom, JudgementsStay};
+ghost use Rattle.gaz_steps.specs.Runs.{JudgementsStay};
 ghost use Rattle.gaz_steps.specs.Standing.{AnyOrder, MoreFiles, StandingIsSettled};
 
 use gaz_keeper::Inbox;
@@ -32,14 +33,10 @@ pub fn more_files()
 {}
 
 /// Whatever commands come to a hub whose board is partial, what is received is what was there and
-/// then what came first, and the board stays partial over it.
+/// then what came first, and the board stays partial over it; after a response that settles it is
+/// the standing one.
 pub fn every_run_from()
     ensures { EveryRunFrom }
-{}
-
-/// After a response that settles, the board of such a hub is the standing one.
-pub fn every_settled_run_from()
-    ensures { EverySettledRunFrom }
 {}
 
 /// Each response of such a hub that settles is the one read off the standing board of the files
@@ -49,14 +46,9 @@ pub fn every_answer()
 {}
 
 /// Whatever commands come to a hub that begins with nothing, what is received is what came first,
-/// and the board is partial over it.
+/// and the board is partial over it; after a response that settles it is the standing one.
 pub fn every_run()
     ensures { EveryRun }
-{}
-
-/// After a response that settles, the board of a hub that began with nothing is the standing one.
-pub fn every_settled_run()
-    ensures { EverySettledRun }
 {}
 
 /// Where all was settled, an exact repeat changes nothing, and is answered by the outcome that
@@ -77,7 +69,7 @@ pub fn equal_received()
 {}
 
 /// Under a register that grew the received files are of custodians that it knows, a partial board
-/// stays one, and the standing board is the same.
+/// stays one, and the standing board is the same; with more files it goes on from there.
 pub fn growth_keeps()
     ensures { GrowthKeeps }
 {}
@@ -94,10 +86,17 @@ pub fn growth_answers()
 {}
 
 /// Whatever commands come, and however often the register grows between them, what is received is
-/// what was there and then what came first, the board stays partial over it, and each response that
-/// settles is the one read off the standing board of the files that are received by then.
+/// what was there and then what came first, the board stays partial over it, and after a response
+/// that settles it is the standing one; each such response is the one read off the standing board of
+/// the files that are received by then.
 pub fn every_grown_run()
     ensures { EveryGrownRun }
+{}
+
+/// Two hubs that end settled under one register and with equal received sets are equal, whatever
+/// came in whatever order, and whenever their registers grew.
+pub fn equal_grown()
+    ensures { EqualGrown }
 {}
 
 /// Periods that are all under one register, as calls under it have, are one run under it.

@@ -21,10 +21,11 @@ impl<S: Alter, R: OfRegister> Store<S, R> {
     ///
     /// In this order: `OtherRegister` where the store isn't of the given one, `RemovedCustodian`
     /// where one of its custodians isn't in the grown one, `ChangedBlocks` where one has other
-    /// blocks there, `Fault` where the database failed; `Memory` may come in place of any. After
-    /// each of them tables and register are as before. What is received and judged stays, whatever
-    /// the answer. A stop within the call leaves what it could before, or the same under the grown
-    /// register; that only where it is a growth.
+    /// blocks there, `Fault` where the database failed, which comes first where it isn't known for
+    /// that whose the store is; `Memory` may come in place of any. After each of them tables and
+    /// register are as before. What is received and judged stays, whatever the answer. A stop
+    /// within the call leaves what it could before, or the same under the grown register; that only
+    /// where it is a growth.
     pub fn extend(&mut self, register: &mut Register, grown: Register) -> Result<(), ExtendFault>
         requires { IsNotOpen (progress_of self.old.judging) }
         ensures keeps { KeepsContent (seen_in (register_text register.old) self.old)
