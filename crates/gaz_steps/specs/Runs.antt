@@ -37,7 +37,7 @@ abbrev pub is_settled : Response → Bool
 is_settled (Submitted answer) = is_settled_answer answer
 is_settled (Replied q reply) = is_ok reply
 
--- the last of these responses does
+-- the last of these responses settles
 abbrev pub ends_settled : List Response → Bool
 ends_settled responses = option_map_or is_settled (last_or None responses) false
 
