@@ -59,7 +59,7 @@ run_kept d old [] (response ∷ responses) new partial r = absurd r
 run_kept d old (command ∷ commands) [] new partial r = absurd r
 
 -- a response settles, if there is one
-pub Settles : Option Response → Type 0
+abbrev pub Settles : Option Response → Type 0
 Settles response = option_map_or is_settled response false ≡ true
 
 -- where the last response settles, or else one before, nothing is ready

@@ -27,14 +27,14 @@ pub record GrowthKeeps : Type 0 where
   pub partial : (old grown : RegisterValue) (files : Received) (board : Board) → Extends old grown
       → AreKnown (door_of old) files → IsPartial (blocks_of old) files board
       → IsPartial (blocks_of grown) files board
-  -- the standing board is the same, and with it each verdict and each view
-  pub standing : (old grown : RegisterValue) (files : Received) → Extends old grown
-      → AreKnown (door_of old) files
-      → standing (blocks_of grown) files ≡ standing (blocks_of old) files
   -- with more files each custodian's judgements go on from where they were
   pub more : (old grown : RegisterValue) (files bigger : Received) → Extends old grown
       → AreKnown (door_of old) files → HasAllOf bigger files → (c : ℕ)
       → IsPrefixOf (standing (blocks_of old) files c) (standing (blocks_of grown) bigger c)
+  -- the standing board is the same, and with it each verdict and each view
+  pub standing : (old grown : RegisterValue) (files : Received) → Extends old grown
+      → AreKnown (door_of old) files
+      → standing (blocks_of grown) files ≡ standing (blocks_of old) files
 
 -- a keeper that stood for a partial run stands for one under the grown register
 abbrev pub GrowthStands : {K : Type 0} → (K → Seen) → Type 0
