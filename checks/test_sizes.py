@@ -8,7 +8,7 @@ from pathlib import Path
 from checks.breaking import SOURCE, fault_of
 from checks.conversations import run_whole
 from checks.preloading import library
-from checks.sizes import MIB, MOST, NO_ROUTE, SMALLEST, cases, long_line, many_headers, most_in_pieces, one_byte_over
+from checks.sizes import MIB, MOST, NO_ROUTE, SMALLEST, cases, long_line, many_headers, most_in_pieces, one_byte_over, unread
 
 TOP = Path(__file__).resolve().parent.parent
 
@@ -17,6 +17,11 @@ exec {sys.executable} -S {TOP}/bench/hub.py
 """
 # Answers at once, and reads nothing.
 ANSWERING = """#!/bin/sh
+exec cat "$0.replies"
+"""
+# Reads all that comes, and then answers.
+READING = """#!/bin/sh
+cat > /dev/null || exit 3
 exec cat "$0.replies"
 """
 FAILING = "#!/bin/sh\ncat > /dev/null\nexit 3\n"
@@ -56,6 +61,12 @@ class Running(unittest.TestCase):
             Path(f"{self.program}.replies").write_bytes(one.replies)
             self.assertIsNone(run_whole(self.write(ANSWERING), one), one.name)
         self.assertIsNone(fault_of(self.write(PLAIN), self.preloaded, most_in_pieces(20)))
+
+    def test_a_read_behind_a_refusal_is_told(self) -> None:
+        for run in unread():
+            Path(f"{self.program}.replies").write_bytes(run.most)
+            self.assertIsNone(fault_of(self.write(ANSWERING), self.preloaded, run), run.name)
+            self.assertIn("exit status 3, wanted 0", fault_of(self.write(READING), self.preloaded, run), run.name)
 
     def test_what_is_missing_is_told(self) -> None:
         program = self.write(FAILING)

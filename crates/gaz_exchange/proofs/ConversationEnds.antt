@@ -79,6 +79,7 @@ module _ (d : Door) where
         | inr last ↦ elim last.1 [ inl at_end ↦ inr (last.0, inl at_end) | inr failed ↦ absurd failed ]
       ];
       none_behind = λ last. c.none_behind (rw same at last);
+      none_behind_refused = c.none_behind_refused;
     }
 
     pub finishes : (result : Result Served Stopped) → FinishesAs most n result → Converses d most begun reads had left held after old new result

@@ -21,10 +21,11 @@ use Rattle.gaz_exchange.specs.declared.conversation.Ended.TheVariants as ended
 use Rattle.gaz_exchange.specs.declared.turn.Turn.{Turn}
 use Rattle.gaz_exchange.specs.declared.turn.Turn.TheVariants.{Answered, Closed, Over}
 use Rattle.gaz_exchange.specs.declared.turn.Turn.TheVariants as turn
-use Rattle.gaz_exchange.proofs.EndLaws.{ends_all}
+use Rattle.gaz_exchange.proofs.EndLaws.{ends_all, no_head_over}
 use Rattle.gaz_exchange.proofs.RoutesKept.{AreFoundBy, found_by_more, found_by_none}
 use Rattle.gaz_exchange.proofs.ExchangeFacts.{both, both_are, comes_more, comes_none, comes_read, goes_on-more, replies-more}
 use Rattle.gaz_exchange.proofs.ConversationEnds.{Converses, answers_off, ends_by, ever_off, passed_in}
+use Rattle.gaz_exchange.proofs.SparingFacts.{spared_by_none, spared_by_short, spared_by_used, spared_then}
 use Rattle.gaz_exchange.proofs.TurnFacts.{passing, standing}
 
 module _ (d : Door) where
@@ -183,11 +184,12 @@ module _ (d : Door) where
           };
           one_for_each = inl (omega (arith, counted_used t.read counted));
           none_behind = λ last. counted_used t.read counted;
+          none_behind_refused = spared_by_used _ _ _ _ (counted_used t.read counted);
         }
 
     closed_by_refusal : (t : TurnsTo Closed) → TurnsAway d reads reads_then (inlet ++ t.read) later mid new t.written
         → Converses d most begun reads_then had later held after old new (Ok (record { requests = n + 1; ended = ended_after (n + 1) most }))
-    closed_by_refusal t (away, rests, counted) =
+    closed_by_refusal t (away, rests, counted, spared) =
         let passed = passed_in s.exchanges (inlet ++ t.read) later (replies s.exchanges ++ t.written) in
         let by_reply : EndsByReply most passed (n + 1) = inr (record {
           open_yet = open_yet;
@@ -215,6 +217,7 @@ module _ (d : Door) where
           };
           one_for_each = counted_all t.read _ _ counted inl;
           none_behind = λ last. not_last (n + 1) (omega arith) last;
+          none_behind_refused = spared_then _ _ _ _ _ _ s.counted spared;
         }
 
     pub ends_closed : TurnsTo Closed
@@ -246,6 +249,7 @@ module _ (d : Door) where
           };
           one_for_each = counted_all t.read _ _ counted inl;
           none_behind = λ last. not_last n (omega arith) last;
+          none_behind_refused = spared_by_none _ _ _ _ (no_head_over _ over);
         }
 
     stops_answering : (t : TurnsTo (turn.Stopped WriteFault)) (lost : List ℕ) (part : lost ≢ []) (e : Exchange)
@@ -270,12 +274,13 @@ module _ (d : Door) where
       };
       one_for_each = inl (omega (arith, counted_used t.read counted));
       none_behind = λ last. counted_used t.read counted;
+      none_behind_refused = spared_by_used _ _ _ _ (counted_used t.read counted);
     }
 
     stops_refusing : (t : TurnsTo (turn.Stopped WriteFault)) (lost : List ℕ) (part : lost ≢ [])
         → TurnsAway d reads reads_then (inlet ++ t.read) later mid new (t.written ++ lost)
         → Converses d most begun reads_then had later held after old new (Err (record { requests = n; cause = WriteFault }))
-    stops_refusing t lost part (away, rests, counted) = record {
+    stops_refusing t lost part (away, rests, counted, spared) = record {
       conversation = record {
         read = s.read ++ t.read;
         written = replies s.exchanges ++ t.written;
@@ -294,6 +299,7 @@ module _ (d : Door) where
       };
       one_for_each = counted_all t.read _ _ counted inl;
       none_behind = λ last. not_last n (omega arith) last;
+      none_behind_refused = spared_then _ _ _ _ _ _ s.counted spared;
     }
 
     -- the next request isn't whole
@@ -323,6 +329,7 @@ module _ (d : Door) where
         };
         one_for_each = counted_all read _ _ w.3 inr;
         none_behind = λ last. not_last n (omega arith) last;
+        none_behind_refused = spared_by_short _ _ _ _ w.0;
       }
 
     pub stops : (cause : Cause) → TurnsTo (turn.Stopped cause)
@@ -366,4 +373,5 @@ module _ (d : Door) where
         };
         one_for_each = inl (omega (arith, s.counted));
         none_behind = λ last. s.counted;
+        none_behind_refused = spared_by_used _ _ _ _ s.counted;
       }

@@ -1,7 +1,7 @@
 -- A conversation that ended answered all requests of its stream.
 use Rattle.std.proofs.Common.{◌≡◌, ℕ, ◌<◌, true, false, List, [], ◌++◌, length, Option, ◌⊎◌, inl, inr, ap, sym, ◌∙◌, arith, append-nil, length-append}
 use Rattle.httparse.proofs.GrammarLemmas.{request_unique}
-use Rattle.gaz_http.specs.Heads.{IsOver, is_blank}
+use Rattle.gaz_http.specs.Heads.{IsOver, NoHead, is_blank}
 use Rattle.gaz_http.proofs.HeadFacts.{head_inside}
 use Rattle.gaz_exchange.specs.Ends.{EndsAs, EndsByReply, Passed}
 use Rattle.gaz_exchange.specs.Framing.{length_of}
@@ -13,10 +13,13 @@ use Rattle.gaz_exchange.specs.declared.fault.Fault.{Fault}
 use Rattle.gaz_exchange.specs.declared.fault.Fault.TheVariants.{NotReceived}
 use Rattle.gaz_exchange.specs.declared.framing.Framing.TheVariants.{Length, Refused}
 
-none_over : (bytes : List ℕ) → IsOver bytes → NoRequest bytes
-none_over bytes over h body rest b =
-    let wrong : true ≡ false = sym over.blank ∙ ap is_blank b.head.reads.1 ∙ head_inside h b.after in
+pub no_head_over : (bytes : List ℕ) → IsOver bytes → NoHead bytes
+no_head_over bytes over h rest b =
+    let wrong : true ≡ false = sym over.blank ∙ ap is_blank b.reads.1 ∙ head_inside h rest in
     cc wrong
+
+none_over : (bytes : List ℕ) → IsOver bytes → NoRequest bytes
+none_over bytes over h body rest b = no_head_over bytes over h b.after b.head
 
 none_refused : (bytes : List ℕ) (fault : Fault) → HasBadLength bytes fault → NoRequest bytes
 none_refused bytes fault bad h body rest b =
@@ -24,7 +27,7 @@ none_refused bytes fault bad h body rest b =
     let wrong : Refused fault ≡ Length (length body) = sym bad.framed ∙ ap length_of same.0 ∙ b.framed in
     cc wrong
 
-none_short : (bytes : List ℕ) (size : ℕ) (after : List ℕ) → HasHead bytes size after → length after < size → NoRequest bytes
+pub none_short : (bytes : List ℕ) (size : ℕ) (after : List ℕ) → HasHead bytes size after → length after < size → NoRequest bytes
 none_short bytes size after has short h body rest b =
     let same = request_unique bytes has.head h after b.after has.begins.reads b.head.reads in
     let sizes : Length size ≡ Length (length body) = sym has.framed ∙ ap length_of same.0 ∙ b.framed in

@@ -1,4 +1,5 @@
 pub mod StreamFacts
+pub mod EndLaws
 pub mod SparingFacts
 pub mod IncomingFacts
 pub mod ExchangeFacts
@@ -14,7 +15,7 @@ pub mod NamedFacts
 pub mod WalkFacts
 pub mod BodyFacts
 pub mod StreamLaws
-pub mod EndLaws
 pub mod FailureFacts
 pub mod WorkedStreams
 pub mod WorkedEnds
+pub mod WorkedRefusals

@@ -15,7 +15,7 @@ use Rattle.gaz_exchange.specs.Asking.{asked, call_at, command_of, method_of, wit
 use Rattle.gaz_exchange.specs.Conversing.{Transfer}
 use Rattle.gaz_exchange.specs.Exchanges.{BeginsWithRequest, Exchange, IsAnswered, IsReplyTo}
 use Rattle.gaz_exchange.specs.Incoming.{IsCall}
-use Rattle.gaz_exchange.specs.Refusals.{IsRefused, IsUnfinished}
+use Rattle.gaz_exchange.specs.Refusals.{IsRefused, IsUnfinished, NoneBehindRefused}
 use Rattle.gaz_exchange.specs.Replies.{IsReplyText, reply_text, reply_to}
 use Rattle.gaz_exchange.specs.Targets.{target_of}
 use Rattle.gaz_exchange.specs.Turns.{Answers, Asks, Exchanges, IsTurn, Refuses, Rests, Stage, TurnsOut, Waits, turn_of}
@@ -135,11 +135,12 @@ module _ (d : Door) where
   -- the turn after a refusal
   pub refuse_turn : (is_last routed : Bool) (before after : ℕ) (bytes rest : List ℕ) (left : Option (List ℕ)) (old new : Seen) (fault : Fault) (text sent lost : List ℕ) (whole : Bool)
       → IsRefused bytes left fault → text ≡ reply_text (Refused fault) true → text ≡ sent ++ lost → (whole ≡ true → lost ≡ []) → (whole ≡ false → lost ≢ []) → Rests d old new
-      → OneForEach before after bytes (IsAtEnd left) → TurnsOut d is_last routed before after bytes rest left old new sent (turn_of true whole)
-  refuse_turn is_last routed before after bytes rest left old new fault text sent lost false why told cut all part same counted =
-      inr (lost, part refl, inr (record { fault = fault; why = why; told = rw cut at told }, same, counted))
-  refuse_turn is_last routed before after bytes rest left old new fault text sent lost true why told cut all part same counted =
-      inr (record { fault = fault; why = why; told = rw (cut ∙ ap (λ l. sent ++ l) (all refl) ∙ append-nil sent) at told }, same, counted)
+      → OneForEach before after bytes (IsAtEnd left) → NoneBehindRefused before after bytes bytes
+      → TurnsOut d is_last routed before after bytes rest left old new sent (turn_of true whole)
+  refuse_turn is_last routed before after bytes rest left old new fault text sent lost false why told cut all part same counted spared =
+      inr (lost, part refl, inr (record { fault = fault; why = why; told = rw cut at told }, same, counted, spared))
+  refuse_turn is_last routed before after bytes rest left old new fault text sent lost true why told cut all part same counted spared =
+      inr (record { fault = fault; why = why; told = rw (cut ∙ ap (λ l. sent ++ l) (all refl) ∙ append-nil sent) at told }, same, counted, spared)
 
   -- the turn of a request that came whole
   pub turn_of_answer : (is_last was routed : Bool) (before after : ℕ) (pending read bytes rest : List ℕ) (had left held mid holds : Option (List ℕ)) (old new : Seen) (q : Request) (h : RequestHead) (turn : Turn)
@@ -154,10 +155,11 @@ module _ (d : Door) where
   -- the turn of what is refused
   pub turn_of_refusal : (is_last was routed : Bool) (before after : ℕ) (pending read bytes rest : List ℕ) (had left held mid holds : Option (List ℕ)) (old : Seen) (fault : Fault) (turn : Turn)
       → (was ≡ true → routed ≡ true) → Consumes had left read → Keeps held mid → bytes ≡ pending ++ read → IsRefused bytes left fault
-      → OneForEach before after bytes (IsAtEnd left) → Refuses mid holds fault turn → IsTurn d is_last (passing had left held holds) (standing was before pending old) (standing routed after rest old) turn
+      → OneForEach before after bytes (IsAtEnd left) × NoneBehindRefused before after bytes bytes → Refuses mid holds fault turn
+      → IsTurn d is_last (passing had left held holds) (standing was before pending old) (standing routed after rest old) turn
   turn_of_refusal is_last was routed before after pending read bytes rest had left held mid holds old fault turn stay eaten kept all why counted a =
       let put = a.sent.put in
-      let out = refuse_turn is_last routed before after bytes rest left old old fault a.sent.text put.sent put.lost a.whole why (refusal_text fault true a.sent.text a.sent.told) put.cut put.all put.part (runs_none d old) counted in
+      let out = refuse_turn is_last routed before after bytes rest left old old fault a.sent.text put.sent put.lost a.whole why (refusal_text fault true a.sent.text a.sent.told) put.cut put.all put.part (runs_none d old) counted.0 counted.1 in
       record { read = read; written = put.sent; consumed = eaten; appended = kept_appends held mid holds put.sent kept put.appended; stay = stay; out = rw (a.turn_is, ← all) out }
 
   waits_out : (is_last routed : Bool) (before after : ℕ) (bytes rest : List ℕ) (left : Option (List ℕ)) (old new : Seen) (cause : Cause) → Waits d before after bytes old new [] cause

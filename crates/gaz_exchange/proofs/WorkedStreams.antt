@@ -33,7 +33,7 @@ use Rattle.gaz_exchange.proofs.ExchangeFacts.{door_heard, door_unheard}
 use Rattle.gaz_exchange.proofs.StreamLaws.{one_request}
 
 -- a head of these parts is one
-is_head : (method target : List ℕ) (fields : List Field) → 0 < length method → list_all is_token_byte method ≡ true → 0 < length target → list_all is_uri_byte target ≡ true
+pub is_head : (method target : List ℕ) (fields : List Field) → 0 < length method → list_all is_token_byte method ≡ true → 0 < length target → list_all is_uri_byte target ≡ true
     → are_ascii target ≡ true → All IsField fields → IsRequestHead (head method target fields)
 is_head method target fields some letters more visible ascii lines = record {
   method = (some, AllPass-from_list_all is_token_byte method letters);
@@ -43,14 +43,14 @@ is_head method target fields some letters more visible ascii lines = record {
   fields = lines;
 }
 
-is_line : (name value : List ℕ) → 0 < length name → list_all is_token_byte name ≡ true → list_all is_value_byte (32 ∷ value) ≡ true → All IsField (header name value ∷ [])
+pub is_line : (name value : List ℕ) → 0 < length name → list_all is_token_byte name ≡ true → list_all is_value_byte (32 ∷ value) ≡ true → All IsField (header name value ∷ [])
 is_line name value some letters visible =
     let line : IsField (header name value) = record { name = (some, AllPass-from_list_all is_token_byte name letters); raw = AllPass-from_list_all is_value_byte (32 ∷ value) visible } in
     All-cons IsField (header name value) [] line (All-nil IsField)
 
 -- ---- the heads
 
-posted_head : (rest : List ℕ) → BeginsWith (posting_bytes ++ rest) posted.head (codes "abc" ++ rest)
+pub posted_head : (rest : List ℕ) → BeginsWith (posting_bytes ++ rest) posted.head (codes "abc" ++ rest)
 unfolding httparse_on_literals
 posted_head rest =
     let size : length (print_request posted.head) ≡ 63 = refl in
@@ -88,11 +88,11 @@ closing_head rest =
 
 -- ---- the requests
 
-posted_framed : length_of posted.head ≡ Length 3
+pub posted_framed : length_of posted.head ≡ Length 3
 unfolding length_of httparse_on_literals
 posted_framed = refl
 
-posted_request : (rest : List ℕ) → BeginsWithRequest (posting_bytes ++ rest) posted.head posted.body rest
+pub posted_request : (rest : List ℕ) → BeginsWithRequest (posting_bytes ++ rest) posted.head posted.body rest
 posted_request rest = record { after = codes "abc" ++ rest; head = posted_head rest; framed = posted_framed; whole = refl }
 
 asked_request : (rest : List ℕ) → BeginsWithRequest (asking_bytes ++ rest) asked_for.head [] rest
@@ -171,7 +171,7 @@ on_three = record {
   never_out_of_turn = out_of_turn;
 }
 
-cut_is : HasHead cut_bytes 3 (codes "ab")
+pub cut_is : HasHead cut_bytes 3 (codes "ab")
 cut_is = record { head = posted.head; begins = cut_head; framed = posted_framed }
 
 cut_never_whole : NoRequest cut_bytes

@@ -14,6 +14,7 @@ use Rattle.gaz_http.specs.declared.supply.Cause.TheVariants.{ReadFault}
 use Rattle.gaz_exchange.specs.Ends.{AnswersAll, ComesTo}
 use Rattle.gaz_exchange.specs.Exchanges.{Exchange, Comes, HearsDoor, RoutesStay, goes_on}
 use Rattle.gaz_exchange.specs.Exchanges.{commands_of, responses_of}
+use Rattle.gaz_exchange.specs.Refusals.{NoneBehindRefused}
 use Rattle.gaz_exchange.specs.declared.conversation.Served.{Served}
 use Rattle.gaz_exchange.specs.declared.conversation.Stopped.{Stopped}
 
@@ -95,6 +96,8 @@ pub record CountedConversation (door : Door) (most : ℕ) (through : Transfer) (
   -- and, where no request may follow, at most one for each byte of the requests
   pub none_behind : AreLast most conversation.exchanges result →
       OneForEachUsed before after conversation.read conversation.rest
+  -- nor any for what stands behind a request that is refused
+  pub none_behind_refused : NoneBehindRefused before after conversation.read conversation.rest
 
 -- where a conversation stopped, the reader or the writer failed, as the cause tells, and was left
 -- in this state

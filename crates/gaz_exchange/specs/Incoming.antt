@@ -1,6 +1,6 @@
 -- A request as it is read.
-use Rattle.std.specs.Prelude.{◌≡◌, ◌⊎◌, ◌<◌, ◌++◌, ⊤, ℕ, Bool, true, false, List, length, Option}
-use Rattle.std.specs.Prelude.{Result, Err}
+use Rattle.std.specs.Prelude.{◌≡◌, ◌⊎◌, ◌<◌, ◌≤◌, ◌++◌, ⊤, ℕ, Bool, true, false, List, length, drop}
+use Rattle.std.specs.Prelude.{Option, Result, Err}
 use Rattle.std.specs.Io.KnownBytes.{IsAtEnd}
 use Rattle.httparse.specs.Grammar.{RequestHead}
 use Rattle.gaz_http.specs.Headers.{is_closing}
@@ -11,7 +11,7 @@ use Rattle.gaz_http.specs.declared.supply.Cause.TheVariants.{ReadFault}
 use Rattle.gaz_exchange.specs.Asking.{call_at, method_of}
 use Rattle.gaz_exchange.specs.Exchanges.{BeginsWithRequest}
 use Rattle.gaz_exchange.specs.Framing.{length_of}
-use Rattle.gaz_exchange.specs.Refusals.{IsRefused, IsUnfinished}
+use Rattle.gaz_exchange.specs.Refusals.{IsRefused, IsUnfinished, NoneBehindRefused}
 use Rattle.gaz_exchange.specs.Targets.{target_of}
 use Rattle.gaz_exchange.specs.declared.fault.Fault.{Fault}
 use Rattle.gaz_exchange.specs.declared.fault.Fault.TheVariants.{BadRequest, NotReceived}
@@ -60,7 +60,7 @@ abbrev pub IsReadForRequest : ℕ → ℕ → List ℕ → List ℕ → Option (
 IsReadForRequest before after bytes rest left (incoming.Request q) =
     OneForEachUsed before after bytes rest
 IsReadForRequest before after bytes rest left (incoming.Refused fault) =
-    OneForEach before after bytes (IsAtEnd left)
+    OneForEach before after bytes (IsAtEnd left) × NoneBehindRefused before after bytes bytes
 IsReadForRequest before after bytes rest left incoming.Over =
     OneForEach before after bytes (IsAtEnd left)
 IsReadForRequest before after bytes rest left (incoming.Failed cause) =
@@ -75,6 +75,23 @@ IsBehind after needed rest left (incoming.Refused fault) = CantRead after needed
 IsBehind after needed rest left incoming.Over = ⊥
 IsBehind after needed rest left (incoming.Failed cause) =
     (size : ℕ) × (needed.framing ≡ Length size) × (length after < size)
+
+-- no read behind a head whose length is refused, and none behind a whole body; bytes are those
+-- behind the head that were pending or read
+abbrev pub IsSpared : ℕ → ℕ → List ℕ → Framing → Type 0
+IsSpared before after bytes (Length size) =
+    size ≤ length bytes → OneForEachUsed before after bytes (drop size bytes)
+IsSpared before after bytes (Refused why) = after ≤ before
+
+-- how often the reader was read for what comes behind a head, by the bytes pending or read there
+abbrev pub IsReadBehind : ℕ → ℕ → List ℕ → Needed → List ℕ → Option (List ℕ) → Incoming → Type 0
+IsReadBehind before after bytes needed rest left (incoming.Request q) =
+    OneForEachUsed before after bytes rest
+IsReadBehind before after bytes needed rest left (incoming.Refused fault) =
+    OneForEach before after bytes (IsAtEnd left) × IsSpared before after bytes needed.framing
+IsReadBehind before after bytes needed rest left incoming.Over = ⊥
+IsReadBehind before after bytes needed rest left (incoming.Failed cause) =
+    OneForEach before after bytes (cause ≡ ReadFault)
 
 -- where the reader or the writer failed before the request was whole, the cause is so
 abbrev pub IfRequestFailed : Incoming → (Cause → Type 0) → Type 0

@@ -10,6 +10,7 @@ pub mod Conversing
 pub mod Streams
 pub mod WorkedStreams
 pub mod WorkedEnds
+pub mod WorkedRefusals
 pub mod WorkedFraming
 pub mod WorkedReplies
 pub mod Incoming

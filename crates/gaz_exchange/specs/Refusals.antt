@@ -3,6 +3,8 @@ use Rattle.std.specs.Prelude.{◌≡◌, ℕ, ◌<◌, ◌⊎◌, List, length, 
 use Rattle.std.specs.Io.KnownBytes.{IsAtEnd}
 use Rattle.httparse.specs.Grammar.{RequestHead}
 use Rattle.gaz_http.specs.Heads.{BeginsWith, IsOver, NeverHead, NoHead}
+use Rattle.gaz_http.specs.Sparing.{OneForEachUsed}
+use Rattle.gaz_exchange.specs.Exchanges.{BeginsWithRequest}
 use Rattle.gaz_exchange.specs.Framing.{length_of}
 use Rattle.gaz_exchange.specs.Replies.{reply_text}
 use Rattle.gaz_exchange.specs.declared.fault.Fault.{Fault}
@@ -44,6 +46,16 @@ pub data IsRefused (bytes : List ℕ) (left : Option (List ℕ)) : Fault → Typ
   -- there was no memory for the body
   no_memory : (size : ℕ) (after : List ℕ) → HasHead bytes size after → 0 < size
       → IsRefused bytes left NotReceived
+
+-- no read for what stands behind a request that is refused: before and after count the reads, read
+-- are the bytes that were read, and rest those of them at whose front the request stands
+pub record NoneBehindRefused (before after : ℕ) (read rest : List ℕ) : Type 0 where
+  -- behind a head whose length is refused
+  pub behind_head : (fault : Fault) (bad : HasBadLength rest fault) →
+      OneForEachUsed before after read bad.after
+  -- behind a whole request, for whose body there was no memory
+  pub behind_body : (head : RequestHead) (body behind : List ℕ) →
+      BeginsWithRequest rest head body behind → OneForEachUsed before after read behind
 
 -- the request at the front of the bytes is refused, by a reply with this text
 pub record IsTurnedAway (bytes : List ℕ) (left : Option (List ℕ)) (text : List ℕ) : Type 0 where

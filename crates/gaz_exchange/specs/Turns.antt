@@ -14,7 +14,7 @@ use Rattle.gaz_exchange.specs.Asking.{command_of}
 use Rattle.gaz_exchange.specs.Conversing.{Transfer}
 use Rattle.gaz_exchange.specs.Exchanges.{Exchange, HearsDoor, IsExchanged, commands_of}
 use Rattle.gaz_exchange.specs.Exchanges.{responses_of}
-use Rattle.gaz_exchange.specs.Refusals.{IsTurnedAway, IsUnfinished}
+use Rattle.gaz_exchange.specs.Refusals.{IsTurnedAway, IsUnfinished, NoneBehindRefused}
 use Rattle.gaz_exchange.specs.Replies.{reply_to}
 use Rattle.gaz_exchange.specs.Sending.{IsSent}
 use Rattle.gaz_exchange.specs.declared.turn.Turn.{Turn}
@@ -92,6 +92,7 @@ Waits door before after bytes old new written cause =
 abbrev pub TurnsAway : Door → ℕ → ℕ → List ℕ → Option (List ℕ) → Seen → Seen → List ℕ → Type 0
 TurnsAway door before after bytes left old new text =
     IsTurnedAway bytes left text × Rests door old new × OneForEach before after bytes (IsAtEnd left)
+    × NoneBehindRefused before after bytes bytes
 
 -- the request at the front of the bytes was answered by this text; `ends` says whether no other may
 -- follow

@@ -3,6 +3,7 @@ ghost use Rattle.gaz_exchange.specs.Conversing.{NeverStops};
 ghost use Rattle.gaz_exchange.specs.Streams.{BytesTellRequests};
 ghost use Rattle.gaz_exchange.specs.WorkedEnds.{WorkedEnds};
 ghost use Rattle.gaz_exchange.specs.WorkedFraming.{WorkedFraming};
+ghost use Rattle.gaz_exchange.specs.WorkedRefusals.{WorkedRefusals};
 ghost use Rattle.gaz_exchange.specs.WorkedReplies.{WorkedReplies};
 ghost use Rattle.gaz_exchange.specs.WorkedStreams.{WorkedStreams};
 
@@ -22,6 +23,11 @@ pub fn worked_streams()
 /// How a conversation ends and what it has answered then, on worked examples.
 pub fn worked_ends()
     ensures { WorkedEnds }
+{}
+
+/// How often a reader is read for a request that is refused, on worked examples.
+pub fn worked_refusals()
+    ensures { WorkedRefusals }
 {}
 
 /// How long the body of a request is, on worked examples.

@@ -6,7 +6,7 @@ ghost use Rattle.gaz_http.specs.Failing.{HasFailed};
 ghost use Rattle.gaz_http.specs.Next.{IsHeadAt};
 ghost use Rattle.gaz_http.specs.Supplies.{Reads};
 ghost use Rattle.gaz_exchange.specs.Incoming.{IfRequestFailed, IsBehind, IsIncoming, IsNeeded};
-ghost use Rattle.gaz_exchange.specs.Incoming.{IsReadForRequest};
+ghost use Rattle.gaz_exchange.specs.Incoming.{IsReadBehind, IsReadForRequest};
 
 use crate::calls::{Method, Routed};
 use crate::fault::Fault;
@@ -107,7 +107,7 @@ fn with_body<R: Source, W: Sink>(
 ) -> Incoming
     ensures read { Reads R.remaining r.old r.new inlet.old
         (λ bytes left. IsBehind bytes needed inlet.new left result
-        × IsReadForRequest (R.reads r.old) (R.reads r.new) bytes inlet.new left result) }
+        × IsReadBehind (R.reads r.old) (R.reads r.new) bytes needed inlet.new left result) }
     ensures written { Keeps (W.contents w.old) (W.contents w.new) }
     ensures failed { IfRequestFailed result (HasFailed R.failed W.failed r.new w.new) }
 {

@@ -1,5 +1,5 @@
 -- How often a reader is read.
-use Rattle.std.proofs.Common.{◌≡◌, ℕ, ◌+◌, ◌<◌, ◌≤◌, List, ◌++◌, length, drop, inl, inr, ap, arith, length-append}
+use Rattle.std.proofs.Common.{◌≡◌, ℕ, ◌+◌, ◌<◌, ◌≤◌, List, ◌++◌, length, drop, inl, inr, ap, arith, length-append, length-drop}
 use Rattle.std.proofs.lemmas.Bool.{cases_lt}
 use Rattle.httparse.specs.Grammar.{RequestHead, print_request}
 use Rattle.gaz_http.specs.Heads.{BeginsWith, NoHead}
@@ -43,6 +43,10 @@ piece_begun before mid after was bs more out pending all same grown some spent o
     let one = ap length same in
     let other = ap length grown in
     omega (arith, one, other, length-append was (bs ++ more), length-append bs more, length-append was bs, length-append out pending, length-append pending more, some, spent, once)
+
+-- a read more, for one of the bytes of a body that isn't whole
+pub piece_within : (before after : ℕ) (bytes : List ℕ) (size got : ℕ) → got < size → after ≤ before + got + 1 → after ≤ before + length bytes → OneForEachUsed before after bytes (drop size bytes)
+piece_within before after bytes size got short once each = omega (arith, short, once, each, length-drop size bytes)
 
 -- nothing is pending, so that all that came is used
 pub used_up : (was bs more out pending all : List ℕ) → was ++ bs ≡ out ++ pending → all ≡ pending ++ more → length all ≡ 0 → length (was ++ (bs ++ more)) ≡ length out

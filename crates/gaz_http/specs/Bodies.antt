@@ -1,5 +1,5 @@
 -- The body behind a head.
-use Rattle.std.specs.Prelude.{◌≡◌, ⊤, ℕ, ◌<◌, List, ◌++◌, length, Option}
+use Rattle.std.specs.Prelude.{◌≡◌, ⊤, ℕ, ◌<◌, List, ◌++◌, length, drop, Option}
 use Rattle.std.specs.Io.KnownBytes.{IsAtEnd}
 use Rattle.gaz_http.specs.Sparing.{OneForEach, OneForEachUsed}
 use Rattle.gaz_http.specs.declared.body.Body.{Body}
@@ -17,12 +17,16 @@ IsBody bytes size rest left Short = (length bytes < size) × IsAtEnd left
 IsBody bytes size rest left Memory = 0 < size
 IsBody bytes size rest left (Failed cause) = length bytes < size
 
--- how often the reader was read for a body, by the bytes that were pending or read
-abbrev pub IsReadForBody : ℕ → ℕ → List ℕ → List ℕ → Option (List ℕ) → Body → Type 0
-IsReadForBody before after bytes rest left (Whole body) = OneForEachUsed before after bytes rest
-IsReadForBody before after bytes rest left Short = OneForEach before after bytes (IsAtEnd left)
-IsReadForBody before after bytes rest left Memory = OneForEach before after bytes (IsAtEnd left)
-IsReadForBody before after bytes rest left (Failed cause) =
+-- how often the reader was read for a body of this size, by the bytes that were pending or read;
+-- where there was no memory for it, never for what stands behind it
+abbrev pub IsReadForBody : ℕ → ℕ → List ℕ → ℕ → List ℕ → Option (List ℕ) → Body → Type 0
+IsReadForBody before after bytes size rest left (Whole body) =
+    OneForEachUsed before after bytes rest
+IsReadForBody before after bytes size rest left Short =
+    OneForEach before after bytes (IsAtEnd left)
+IsReadForBody before after bytes size rest left Memory =
+    OneForEachUsed before after bytes (drop size bytes)
+IsReadForBody before after bytes size rest left (Failed cause) =
     OneForEach before after bytes (cause ≡ ReadFault)
 
 -- what came of asking for more where nothing was pending

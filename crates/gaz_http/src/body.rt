@@ -68,7 +68,7 @@ pub fn read_body<R: Source, W: Sink>(
 ) -> Body
     ensures read { Reads R.remaining r.old r.new inlet.old
         (λ bytes left. IsBody bytes size inlet.new left result
-        × IsReadForBody (R.reads r.old) (R.reads r.new) bytes inlet.new left result) }
+        × IsReadForBody (R.reads r.old) (R.reads r.new) bytes size inlet.new left result) }
     ensures written { Keeps (W.contents w.old) (W.contents w.new) }
     ensures failed { IfBodyFailed result (HasFailed R.failed W.failed r.new w.new) }
 {

@@ -1,6 +1,6 @@
-use Rattle.std.proofs.Common.{◌++◌, ap, inl, inr, length, take, arith, refl, length-append, length-take}
+use Rattle.std.proofs.Common.{◌<◌, ◌++◌, ap, inl, inr, length, take, arith, refl, length-append, length-take}
 use Rattle.std.proofs.KnownBytes.{Consumes-trans, Keeps-trans}
-use Rattle.gaz_http.proofs.SparingFacts.{piece_begun, used_up}
+use Rattle.gaz_http.proofs.SparingFacts.{piece_begun, piece_within, used_up}
 use Rattle.gaz_http.proofs.StreamFacts.{body_more}
 use Rattle.gaz_http.proofs.body.read_body.Goals as goal
 
@@ -24,7 +24,10 @@ pub returns-in_default-extend_from_slice-clause-read : goal.returns-in_default-e
 returns-in_default-extend_from_slice-clause-read g c =
     let (kept, bs, eaten, same, fits, asked) = c.pieces.invariant in
     let (more, drunk, grown, some) = c.in-Some.ensures.read in
-    (bs ++ more, Consumes-trans _ _ _ _ _ eaten drunk, (omega arith, inl (piece_begun _ _ _ c.args.inlet.now bs more c.pieces.out.items c.pieces.inlet _ same grown some asked c.in-Some.ensures.counted)))
+    let each = piece_begun _ _ _ c.args.inlet.now bs more c.pieces.out.items c.pieces.inlet _ same grown some asked c.in-Some.ensures.counted in
+    let short : length c.pieces.out.items < c.args.size = omega (arith, c.len.ensures, c.pieces-test.true, c.pieces.out.ok) in
+    let within = piece_within _ _ _ c.args.size (length c.pieces.out.items) short (omega (arith, asked, c.in-Some.ensures.counted)) each in
+    (bs ++ more, Consumes-trans _ _ _ _ _ eaten drunk, (omega arith, within))
 
 pub returns-clause-read : goal.returns-clause-read
 returns-clause-read g c =
