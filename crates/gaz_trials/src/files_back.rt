@@ -1,8 +1,9 @@
-//! Change files that are read and written as they were.
+//! Change files that are read and written as they were, and the items in them.
 use crate::file_fixtures::*;
 use crate::wanted::holds;
 use gaz_changefile::{read_file, write_file};
 use gaz_ids::{Code, Volume};
+use gaz_records::{Item, item_of_text, item_text, key_of};
 use std::alloc::Global;
 use std::test::Fail;
 
@@ -28,11 +29,39 @@ fn rewritten(alloc: Global, file: File<'_>) -> Result<Vec<u8>, Fail> {
     Ok(write_file(alloc, &read, code, volume)?)
 }
 
+// The row of an item says one of the same row and the same key.
+fn is_said_again(alloc: Global, item: &Item) -> Result<bool, Fail> {
+    let row = item_text(alloc, item)?;
+    let again = item_of_text(alloc, item.kind(), &row)?;
+    Ok(item_text(alloc, &again)? == row && key_of(&again) == key_of(item))
+}
+
+// The rows of all items of a file do.
+fn are_said_again(alloc: Global, file: File<'_>) -> Result<bool, Fail> {
+    let (bytes, code, volume) = file;
+    let code = Code::of(code).ok_or("code")?;
+    let volume = Volume::of(volume).ok_or("volume")?;
+    for change in &read_file(alloc, bytes, code, volume)?.changes {
+        if !is_said_again(alloc, &change.item)? {
+            return Ok(false);
+        }
+    }
+    Ok(true)
+}
+
 #[test]
 fn written_back(rt: HostRuntime) -> Result<(), Fail> {
     for file in FILES {
         let once = rewritten(rt.alloc(), *file)?;
         holds(&rt, once.as_slice() == file.0, "as it was read");
+    }
+    Ok(())
+}
+
+#[test]
+fn items_are_said_again(rt: HostRuntime) -> Result<(), Fail> {
+    for file in FILES {
+        holds(&rt, are_said_again(rt.alloc(), *file)?, "as its row says");
     }
     Ok(())
 }

@@ -1,6 +1,6 @@
 //! What no reply, no contract and no run of a program tells: what keepers in memory answer to
-//! one list of calls; which field of an item is at fault; files that are read and written; and what
-//! calls answer that no program makes.
+//! one list of calls; which field of an item is at fault; files and items that are read and
+//! written; a register that grows under a hub; and what calls answer that no program makes.
 #![tactic(auto)]
 
 #[cfg(test)]
@@ -10,9 +10,13 @@ mod file_fixtures;
 #[cfg(test)]
 mod files_back;
 #[cfg(test)]
+mod growth;
+#[cfg(test)]
 mod mirrors;
 #[cfg(test)]
 mod records;
+#[cfg(test)]
+mod registers;
 #[cfg(test)]
 mod unasked;
 #[cfg(test)]

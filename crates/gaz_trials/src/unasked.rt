@@ -2,13 +2,13 @@
 //! over: with ample memory each answers what is right.
 ghost use Rattle.gaz_keeper.specs.Telling.{IsNotJudging};
 
+use crate::registers::sample;
 use crate::wanted::holds;
 use gaz_addressable::Object;
 use gaz_extract::lookup;
 use gaz_hub::Hub;
 use gaz_ids::Uprn;
 use gaz_keeper::Inbox;
-use gaz_register::Register;
 use gaz_shelf::{MemShelf, Seed};
 use std::alloc::Global;
 use std::test::Fail;
@@ -44,9 +44,6 @@ fn objects_give_their_fields_back(rt: HostRuntime) -> Result<(), Fail> {
     Ok(())
 }
 
-const REGISTER: &str = "[[custodian]]\ncode = 1001\nname = \"Upper County\"\n\
-    uprn = [[1, 99999]]\nusrn = [[100, 199]]\n";
-
 /// A street with a flat.
 const FILE: &str = "10,1,1001,1,2024-01-02\n11,I,1,101,1,2001-04-01,\n\
     15,I,2,101,ENG,High Street,,Arden,Arden\n\
@@ -57,8 +54,7 @@ const FILE: &str = "10,1,1001,1,2024-01-02\n11,I,1,101,1,2001-04-01,\n\
 fn line_after<K: Inbox + Drop>(alloc: Global, keeper: K) -> Result<String, Fail>
     requires { IsNotJudging K.seen keeper }
 {
-    let register = Register::read(alloc, REGISTER.as_bytes())?;
-    let mut hub = Hub::new(alloc, register, keeper);
+    let mut hub = Hub::new(alloc, sample(alloc)?, keeper);
     hub.submit(1001, 1, FILE.as_bytes());
     hub.settle()?;
     let (register, mut keeper) = hub.into_parts();
