@@ -15,6 +15,7 @@ from checks import (
     foreign,
     growing,
     handed_on,
+    heads,
     in_turn,
     killing,
     large,
@@ -66,7 +67,7 @@ def in_lanes(parts: Sequence[Callable[[], Iterable[Case]]]) -> Iterator[Case]:
 
 
 def of_program(program: Path, root: Path) -> Iterator[Case]:
-    """Of `gazhub`: conversations, how it ends, streams that break, commands over a store's file, what becomes a store, connections."""
+    """Of `gazhub`: conversations, heads of requests, how it ends, streams that break, commands over a store's file, what becomes a store, connections."""
     cases = (*serving.CASES, *at_hand.CASES, killing.killed_while_files_come, reopening.what_failed_once_is_opened_again)
     yield from in_lanes(
         (
@@ -74,6 +75,7 @@ def of_program(program: Path, root: Path) -> Iterator[Case]:
             lambda: held(conversations.run_all(program, root)),
             lambda: large.run_all(program),
             lambda: sizes.run_all(program),
+            lambda: named("a head:", heads.run_all(program)),
             lambda: named("gazhub on", runs.run_all(program)),
             lambda: named("breaking:", breaking.run_all(program, root)),
             lambda: named("gazhub", words.run_all(program)),
