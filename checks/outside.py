@@ -21,6 +21,7 @@ from checks import (
     large,
     left,
     making,
+    making_stopped,
     measure,
     migrating,
     migrating_between,
@@ -67,7 +68,8 @@ def in_lanes(parts: Sequence[Callable[[], Iterable[Case]]]) -> Iterator[Case]:
 
 
 def of_program(program: Path, root: Path) -> Iterator[Case]:
-    """Of `gazhub`: conversations, heads of requests, how it ends, streams that break, commands over a store's file, what becomes a store, connections."""
+    """Of `gazhub`: conversations, heads of requests, how it ends, streams that break, commands over a store's file, what becomes a store, also where its making
+    is stopped, connections."""
     cases = (*serving.CASES, *at_hand.CASES, killing.killed_while_files_come, reopening.what_failed_once_is_opened_again)
     yield from in_lanes(
         (
@@ -82,6 +84,7 @@ def of_program(program: Path, root: Path) -> Iterator[Case]:
             lambda: named("a register:", registers.run_all(program)),
             lambda: named("commands:", sessions.run_all(program)),
             lambda: named("making:", making.run_all(program)),
+            lambda: named("making:", making_stopped.run_all(program)),
             lambda: named("page", tour.run_all(program, root)),
             lambda: named("opening", opening.run_all(program)),
         )
