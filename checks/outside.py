@@ -73,6 +73,8 @@ def of_program(program: Path, root: Path) -> Iterator[Case]:
     cases = (*serving.CASES, *at_hand.CASES, killing.killed_while_files_come, reopening.what_failed_once_is_opened_again)
     yield from in_lanes(
         (
+            # (it waits for half a minute, and for nothing else)
+            lambda: named("serving:", serving.run_all(program, serving.WAITING)),
             lambda: named("serving:", serving.run_all(program, cases)),
             lambda: held(conversations.run_all(program, root)),
             lambda: large.run_all(program),
