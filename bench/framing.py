@@ -2,6 +2,7 @@
 import re
 
 MOST = 100_000
+MOST_HEAD = 8192  # bytes, with the empty lines before it
 
 
 def number(text, width, low, high):
@@ -17,21 +18,36 @@ HEADER = re.compile(rb"([!#$%&'*+.^_`|~0-9A-Za-z-]+):[ \t]*([\t -~\x80-\xff]*?)[
 
 def head_of(source):
     """Method, target, minor version and headers of the next request; None at the end of the input, False for no head."""
-    size, line = 0, source.readline()
+    line = source.readline()
+    size = len(line)
     while line in (b"\r\n", b"\n"):
-        size += len(line)
         line = source.readline()
-    if not line:
-        return None
-    found = REQUEST.match(line)
-    headers = []
+        size += len(line)
+    if not line.strip(b"\r\n"):
+        return None if is_over(source, line, size) else False
+    found, headers = REQUEST.match(line), []
     while found and (line := source.readline()) not in (b"\r\n", b"\n"):
         size += len(line)
         header = HEADER.match(line)
-        if header is None or len(headers) == 32 or size > 8192:
+        if header is None or len(headers) == 32 or size > MOST_HEAD:
             return False
         headers.append((header[1].lower(), header[2]))
-    return found and (*found.groups(), headers)
+    if not found or size + len(line) > MOST_HEAD or not (found[2].isascii() or is_utf8(found[2])):
+        return False
+    return *found.groups(), headers
+
+
+def is_over(source, line, size):
+    """Whether nothing but CR and LF comes, and not too many: of such was the last line, and there were so many. A line without LF is the last."""
+    more = source.read(max(MOST_HEAD + 1 - size, 0)) if line.endswith(b"\n") else b""
+    return size + len(more) <= MOST_HEAD and not more.strip(b"\r\n")
+
+
+def is_utf8(data):
+    try:
+        return bool(data.decode())
+    except UnicodeDecodeError:
+        return False
 
 
 def length_of(method, headers):

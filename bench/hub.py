@@ -195,7 +195,9 @@ REASONS = {200: "OK", 201: "Created", 404: "Not Found", 405: "Method Not Allowed
 
 def answer_to(hub, method, target, body):
     """The status, the body and the allowed methods of a reply."""
-    segments = target.decode("latin-1").split("/")[1:]
+    first, *segments = target.decode("latin-1").split("/")
+    if first or not segments:
+        return 404, 41, None
     if len(segments) == 4 and segments[0] == "custodians" and segments[2] == "volumes" and segments[1] and segments[3]:
         if method not in (b"POST", b"GET"):
             return 405, 42, "GET, POST"

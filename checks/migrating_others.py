@@ -37,6 +37,19 @@ TAKEN = {
 }
 
 
+# A row of each table by which everything that may become of one changes something.
+ROWS = {"version2": 6, "received": 3}
+
+
+def of_rows() -> Iterator[tuple[str, str]]:
+    """What becomes of a row of each table, but of hops and of custody, which schema 1 hasn't."""
+    for table, them in damages.ROWS.items():
+        for name, sql in them.items():
+            text = sql.replace("version2", "version").replace(", hop FROM", " FROM").format(row=ROWS[table])
+            if not re.search(r"\b(hop|92)\b", text):
+                yield f"a row of {table.removesuffix('2')} {name}", f"{''.join(map(loosely, TABLES))}{text}"
+
+
 def rows(store: Path) -> dict[str, list[tuple]] | str:
     """The rows of a store as bytes, by the names of their columns, whatever stands in them; or why Python doesn't read them."""
     with copied(store) as copy, opened(copy) as conn:
@@ -89,10 +102,7 @@ def damaged(on: Place) -> Iterator[tuple[str, Path]]:
                 store = altered(on, "")
                 by_cell(store, table, column, value)
                 yield f"{name} as {column} of {table}", store
-    for name, sql in {**damages.ROWS["version2"], **damages.ROWS["received"]}.items():
-        if "hop" not in sql and "92" not in sql:
-            text = re.sub("version2", "version", sql).format(row=5)
-            yield f"a row {name}", altered(on, f"{''.join(map(loosely, TABLES))}{text}")
+    yield from ((name, altered(on, sql)) for name, sql in of_rows())
     for size in ("", damages.SMALL_PAGES):
         ready = altered(on, size)
         for number in range(ready.stat().st_size // damages.page_size(ready)):

@@ -15,11 +15,13 @@ from checks import (
     foreign,
     growing,
     handed_on,
+    heads,
     in_turn,
     killing,
     large,
     left,
     making,
+    making_stopped,
     measure,
     migrating,
     migrating_between,
@@ -66,20 +68,25 @@ def in_lanes(parts: Sequence[Callable[[], Iterable[Case]]]) -> Iterator[Case]:
 
 
 def of_program(program: Path, root: Path) -> Iterator[Case]:
-    """Of `gazhub`: conversations, how it ends, streams that break, commands over a store's file, what becomes a store, connections."""
+    """Of `gazhub`: conversations, heads of requests, how it ends, streams that break, commands over a store's file, what becomes a store, also where its making
+    is stopped, connections."""
     cases = (*serving.CASES, *at_hand.CASES, killing.killed_while_files_come, reopening.what_failed_once_is_opened_again)
     yield from in_lanes(
         (
+            # (it waits for half a minute, and for nothing else)
+            lambda: named("serving:", serving.run_all(program, serving.WAITING)),
             lambda: named("serving:", serving.run_all(program, cases)),
             lambda: held(conversations.run_all(program, root)),
             lambda: large.run_all(program),
             lambda: sizes.run_all(program),
+            lambda: named("a head:", heads.run_all(program)),
             lambda: named("gazhub on", runs.run_all(program)),
             lambda: named("breaking:", breaking.run_all(program, root)),
             lambda: named("gazhub", words.run_all(program)),
             lambda: named("a register:", registers.run_all(program)),
             lambda: named("commands:", sessions.run_all(program)),
             lambda: named("making:", making.run_all(program)),
+            lambda: named("making:", making_stopped.run_all(program)),
             lambda: named("page", tour.run_all(program, root)),
             lambda: named("opening", opening.run_all(program)),
         )

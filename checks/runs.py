@@ -37,6 +37,8 @@ RUNS = (
     Run("no word and no request", (), b"", 0),
     Run("a request", (), GET, 0, written=REPLY),
     Run("the word play", ("play",), GET, 0, written=REPLY),
+    Run("the word --", ("--",), GET, 0, written=REPLY),
+    Run("the word play behind --", ("--", "play"), GET, 2, said=None),
     Run("a request that is cut off", (), GET[:-2], 0, written=CUT_OFF),
     Run("another word", ("nonsense",), GET, 2, said=USAGE),
     Run("an empty word", ("",), GET, 2, said=None),

@@ -1,4 +1,4 @@
-"""`gazhub serve` and its clients: Python's, `curl`, one that sends nothing, one that breaks off."""
+"""`gazhub serve` and its clients: Python's, `curl`, such as break off, such as send nothing more or take nothing."""
 
 import contextlib
 import http.client
@@ -8,18 +8,24 @@ import shutil
 import socket
 import subprocess
 import tempfile
+import time
 from collections.abc import Callable, Iterator
+from concurrent.futures import ThreadPoolExecutor
 from dataclasses import dataclass
 from pathlib import Path
 
 from checks.conversations import DEADLINE, replies_in
-from checks.stores import SAMPLE, post
+from checks.large import MOST_CHANGES, chain
+from checks.stores import SAMPLE, get, post
 
 STREET = b"10,1,1001,1,2024-01-02\n11,I,1,101,1,2001-04-01,\n99,1\n"
 APPLIED = b'{"outcome":"applied"}\n'
 NOT_THERE = b'{"refusal":17}\n'
 LARGE = b"a" * 1_048_577
 MOST_REQUESTS = 1_000  # of a connection
+PATIENCE = 28.0  # seconds for which a silent peer is waited for
+SOON = 32.0  # seconds after which the next one is answered: one more once all is told, and what a busy machine adds
+FEW_BYTES = 4_096  # that a peer takes, once the system's buffers are full
 
 
 @dataclass
@@ -128,7 +134,7 @@ def a_large_file_is_refused_and_told(room: Room) -> str | None:
 
 
 def who_breaks_off_harms_nobody(room: Room) -> str | None:
-    """A connection that is reset, one that breaks off within a request, one that sends nothing; and then one that asks."""
+    """A connection that is reset, one that breaks off within a request, one that ends at once; and then one that asks."""
     with room.serves(4) as served:
         where = ("127.0.0.1", served.port)
         with socket.create_connection(where, DEADLINE) as reset:
@@ -142,6 +148,32 @@ def who_breaks_off_harms_nobody(room: Room) -> str | None:
         told = replied(client, "GET", "/custodians/1001/volumes/1")
         client.close()
         return served.ended() if told == (404, NOT_THERE) else f"it replies {told}"
+
+
+def next_answered(room: Room, store: Path, said: bytes) -> str | None:
+    """What is wrong with when the next peer is answered, behind one that says this, and then says nothing and takes nothing."""
+    with room.serves(2, store) as served, socket.socket() as silent:
+        silent.setsockopt(socket.SOL_SOCKET, socket.SO_RCVBUF, FEW_BYTES)
+        silent.connect(("127.0.0.1", served.port))
+        silent.sendall(said)
+        begun, client = time.monotonic(), served.client()
+        told = replied(client, "GET", "/custodians/1002/volumes/1")
+        took = time.monotonic() - begun
+        client.close()
+        if told != (404, NOT_THERE):
+            return f"it replies {told}"
+        return served.ended() if PATIENCE - 1 < took < SOON else f"the next is answered after {took:.1f} s"
+
+
+def who_is_silent_is_given_up(room: Room) -> str | None:
+    """Peers that say nothing, or a front of a request, or ask for more than they take, each of a process of its own."""
+    stores, file = [room.store() for _ in range(3)], room.folder / "chain.csv"
+    file.write_bytes(chain(1, MOST_CHANGES))
+    subprocess.run(room.words("submit", stores[2], "1001", "1", str(file)), check=True, stdout=subprocess.DEVNULL)
+    said = b"", b"POST /custodians/1001/volumes/2 HTTP/1.1\r\nContent-Length: 53\r\n\r\n10,1,", get("/extract/1001/1") * 200
+    with ThreadPoolExecutor(len(said)) as workers:
+        faults = list(workers.map(lambda pair: next_answered(room, *pair), zip(stores, said)))
+    return next((f"peer {number}: {fault}" for number, fault in enumerate(faults, 1) if fault), None)
 
 
 def standing(room: Room, served: Served) -> bytes:
@@ -215,6 +247,8 @@ CASES: tuple[Callable[[Room], str | None], ...] = (
     a_taken_port_is_no_port,
     curl_is_answered,
 )
+
+WAITING = (who_is_silent_is_given_up,)  # half a minute
 
 
 def run_all(program: Path, cases: tuple[Callable[[Room], str | None], ...] = CASES) -> list[tuple[str, str | None]]:

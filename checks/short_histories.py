@@ -16,12 +16,12 @@ OLD_MILL = (
     b'15,I,2,300,ENG,"Mill Lane, rear of",,Bay,Bay Area\n21,I,3,200000,6,0,0,,,2010-05-01,\n'
     b"24,I,4,Q1,200000,ENG,6,300,,,,,,,,,,The Old Mill,2010-05-01,\n23,I,5,X1,200000,TAX01,A/17,2010-05-01,\n99,5\n"
 )
-# The mill and its address are approved, its tax number goes, a part of it comes, and another part comes and goes.
+# The mill and its address are approved, its tax number goes, a part of it comes, and a tax number of the part comes and goes.
 OLD_MILL_APPROVED = (
     b"10,1,1003,2,2024-04-02\n90,1002,1\n21,U,1,200000,1,0,0,,BY1 1AA,2010-05-01,\n"
     b"24,U,2,Q1,200000,ENG,1,300,,,,,,,,,,The Old Mill,2010-05-01,\n23,D,3,X1,200000,TAX01,A/17,2010-05-01,\n"
-    b"21,I,4,200001,1,0,0,200000,BY1 1AA,2024-04-01,\n21,I,5,200002,1,0,0,200000,BY1 1AA,2024-04-01,\n"
-    b"21,D,6,200002,1,0,0,200000,BY1 1AA,2024-04-01,\n99,6\n"
+    b"21,I,4,200001,1,0,0,200000,BY1 1AA,2024-04-01,\n23,I,5,X2,200001,TAX01,A/18,2024-04-01,\n"
+    b"23,D,6,X2,200001,TAX01,A/18,2024-04-01,\n99,6\n"
 )
 NUMBER_9_MILL_LANE = (
     b"10,1,1002,1,2024-03-01\n90,1001,1\n90,1003,1\n21,I,1,100002,1,455000,255000,,BY1 1AB,2020-01-01,\n"
@@ -91,6 +91,6 @@ QUESTIONS = (
     *(get(f"/custodians/{code}") for code in (1001, 1002, 1003)),
     *(get(f"/custodians/{code}/volumes/{volume}") for code, volume in VOLUMES),
     *(get(f"/extract/{code}/{volume}") for code, volume in VOLUMES),
-    *(get(f"/uprn/{uprn}") for uprn in (42, 500, 100001, 100002, 100003, 200000, 200001, 200002)),
+    *(get(f"/uprn/{uprn}") for uprn in (42, 500, 100001, 100002, 100003, 200000, 200001)),
     get("/closed"),
 )

@@ -1,4 +1,4 @@
-"""Commands that change a store at once, while calls of the store's files fail, the machine stops, the process is killed, or memory is refused, one moment a run."""
+"""Commands that change or make a store at once, while calls of the store's files fail, the machine stops, the process is killed, or memory is refused, one moment a run."""
 
 import contextlib
 import itertools
@@ -14,9 +14,9 @@ from pathlib import Path
 
 from checks import failing, wanting
 from checks.allowed import STOPPED
-from checks.changing import AFTER, BEFORE, Change, Tried, came_of, ran, tried_of
+from checks.changing import AFTER, BEFORE, Change, Said, Tried, came_of, ran, tried_of
 from checks.failing import Room
-from checks.moments import Blocks, Files
+from checks.moments import Blocks, Files, Watched
 from checks.preloading import library
 from checks.stores import QUICK
 from checks.troubled import CUTS, Came, rising
@@ -48,13 +48,18 @@ def stopped_over(first: Files, tried: Tried, number: int, blocks: Blocks | None)
     run, found = tried.watched(first)
     place = run.call_behind(number)
     left = run.last if place is None else run.left_at(place, blocks)
+    return left, came_over(tried, run, found, place, left)
+
+
+def came_over(tried: Tried, run: Watched, found: Said, place: int | None, left: Files) -> Came:
+    """What comes of a run that is stopped before the call at a place, where there is one, and leaves this."""
     found = found if place is None else (STOPPED, run.told_at(place), b"")
     store = tried.place(left)
     try:
         came = came_of(tried, store, found, int(place is not None))
     finally:
         shutil.rmtree(store.parent)
-    return left, came if run.is_true else Came("the calls that were seen don't make what is there", Counter())
+    return came if run.is_true else Came("the calls that were seen don't make what is there", Counter())
 
 
 def stop(tried: Tried, number: int, blocks: Blocks | None = (0, 0)) -> Came:
@@ -140,10 +145,15 @@ def room_of(gazhub: Path, registers: dict[str, str]) -> Iterator[Room]:
 
 def run_all(room: Room, change: Change, every: int = 1, parts: tuple[Part, ...] = PARTS) -> Iterator[tuple[str, str | None]]:
     """Each part, by one in so many of its moments, and what is wrong."""
-    tried, fault = tried_of(room, change)
-    yield f"{change.name}, without trouble", fault
+    return run_parts(*tried_of(room, change), every, parts)
+
+
+def run_parts(tried: Tried, fault: str | None, every: int = 1, parts: tuple[Part, ...] = PARTS) -> Iterator[tuple[str, str | None]]:
+    """The same of what is tried, and what was wrong with it without trouble."""
+    name = tried.change.name
+    yield f"{name}, without trouble", fault
     if fault is None:
-        yield from ((f"{change.name}, {part.name}", part_fault(tried, part, every)) for part in parts)
+        yield from ((f"{name}, {part.name}", part_fault(tried, part, every)) for part in parts)
 
 
 def run_few(room: Room, change: Change, count: int, names: tuple[str, ...]) -> Iterator[tuple[str, str | None]]:

@@ -1,5 +1,6 @@
 """Tests of `conversations`, over small programs in a temporary folder."""
 
+import io
 import sys
 import tempfile
 import unittest
@@ -16,6 +17,9 @@ from checks.conversations import (
     run_stepwise,
     run_whole,
 )
+from checks.wanting import plain
+
+TOP = Path(__file__).resolve().parent.parent
 
 GET = b"GET /closed HTTP/1.1\r\nHost: hub\r\n\r\n"
 POST = b"POST /custodians/1001/volumes/1 HTTP/1.1\r\nContent-Length: 3\r\n\r\nabc"
@@ -185,6 +189,14 @@ class Running(InAFolder):
         ran = run_all(self.program(WRONG_IN_A_BYTE), self.root)
         self.assertEqual([how for _, how, _ in ran], ["as one stream", "request by request"])
         self.assertTrue(all(name == "conversations/twice" and fault for name, _, fault in ran))
+
+
+class Worked(unittest.TestCase):
+    def test_the_plain_hub_replies_what_is_written_to_each(self) -> None:
+        for one in find(TOP):
+            sink = io.BytesIO()
+            plain.answer(io.BytesIO(one.requests), sink)
+            self.assertIsNone(difference(one.replies, sink.getvalue()), one.name)
 
 
 if __name__ == "__main__":

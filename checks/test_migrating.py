@@ -228,6 +228,14 @@ class Others(Migrating):
     def test_rows_that_are_left_out_are_found(self) -> None:
         self.assertIn("Python makes other rows", migrating_others.takes(self.place(LEFT_OUT), ""))
 
+    def test_what_becomes_of_a_row_changes_something(self) -> None:
+        on, loose = self.place(PROGRAM), "".join(map(migrating_refused.loosely, migrating_refused.TABLES))
+        before, them = migrating_refused.dumped(migrating_refused.altered(on, loose)), dict(migrating_others.of_rows())
+        of_each = [sum(name.startswith(f"a row of {table} ") for name in them) for table in ("version", "received")]
+        self.assertEqual([11, 9], of_each)
+        for name, sql in them.items():
+            self.assertNotEqual(before, migrating_refused.dumped(migrating_refused.altered(on, sql)), name)
+
     def test_damaged_stores_are_moved_or_refused(self) -> None:
         on = self.place(PROGRAM)
         them = list(migrating_others.damaged(on))

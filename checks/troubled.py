@@ -74,7 +74,8 @@ def opened_again(room: Room, way: str, left: Files, history: Requests, along: Al
 
 
 def opened_anew(room: Room, way: str, left: Files, history: Requests, along: Along) -> str | None:
-    """What is wrong with one store of which this was left and that is opened without trouble; where none was made, it is made then."""
+    """What is wrong with one store of which this was left and that is opened without trouble; where none was made, one is made in new files. (What `init` makes of those that are
+    left: making_stopped.py.)"""
     requests = (*QUESTIONS, *history, *QUESTIONS)
     with tempfile.TemporaryDirectory(dir=room.folder) as made:
         store = Path(made) / "store"
