@@ -25,7 +25,7 @@ use Rattle.gaz_exchange.proofs.EndLaws.{ends_all, no_head_over}
 use Rattle.gaz_exchange.proofs.RoutesKept.{AreFoundBy, found_by_more, found_by_none}
 use Rattle.gaz_exchange.proofs.ExchangeFacts.{both, both_are, comes_more, comes_none, comes_read, goes_on-more, replies-more}
 use Rattle.gaz_exchange.proofs.ConversationEnds.{Converses, answers_off, ends_by, ever_off, passed_in}
-use Rattle.gaz_exchange.proofs.SparingFacts.{spared_by_none, spared_by_short, spared_by_used, spared_then}
+use Rattle.gaz_exchange.proofs.SparingFacts.{spared_by_none, spared_by_used, spared_then}
 use Rattle.gaz_exchange.proofs.TurnFacts.{passing, standing}
 
 module _ (d : Door) where
@@ -249,7 +249,7 @@ module _ (d : Door) where
           };
           one_for_each = counted_all t.read _ _ counted inl;
           none_behind = λ last. not_last n (omega arith) last;
-          none_behind_refused = spared_by_none _ _ _ _ (no_head_over _ over);
+          none_behind_refused = spared_by_none _ _ _ _ (no_head_over _ over) (omega (arith, over.short));
         }
 
     stops_answering : (t : TurnsTo (turn.Stopped WriteFault)) (lost : List ℕ) (part : lost ≢ []) (e : Exchange)
@@ -329,7 +329,7 @@ module _ (d : Door) where
         };
         one_for_each = counted_all read _ _ w.3 inr;
         none_behind = λ last. not_last n (omega arith) last;
-        none_behind_refused = spared_by_short _ _ _ _ w.0;
+        none_behind_refused = spared_then _ _ _ _ _ _ s.counted w.4;
       }
 
     pub stops : (cause : Cause) → TurnsTo (turn.Stopped cause)

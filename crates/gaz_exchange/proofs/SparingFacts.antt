@@ -1,14 +1,14 @@
 -- How often a reader is read for a request.
-use Rattle.std.proofs.Common.{◌≡◌, ◌≤◌, ℕ, ◌+◌, List, [], ◌++◌, length, Option, ◌⊎◌, inl, inr, ap, sym, ◌∙◌, subst, arith, append-nil, length-append, length-drop}
+use Rattle.std.proofs.Common.{◌≡◌, ◌<◌, ◌≤◌, ℕ, ◌+◌, Bool, drop, List, [], ◌++◌, length, Option, ◌⊎◌, inl, inr, ap, sym, ◌∙◌, subst, arith, append-nil, length-append, length-drop}
 use Rattle.std.specs.Io.KnownBytes.{IsAtEnd}
 use Rattle.httparse.specs.Grammar.{RequestHead}
 use Rattle.httparse.proofs.GrammarLemmas.{request_unique}
-use Rattle.gaz_http.specs.Heads.{BeginsWith, NeverHead, NoHead}
+use Rattle.gaz_http.specs.Heads.{BeginsWith, NeverHead, NoHead, inlet_size}
 use Rattle.gaz_http.specs.Sparing.{OneForEach, OneForEachUsed}
 use Rattle.gaz_http.proofs.SparingFacts.{rest_within}
 use Rattle.gaz_exchange.specs.Exchanges.{BeginsWithRequest}
 use Rattle.gaz_exchange.specs.Framing.{length_of}
-use Rattle.gaz_exchange.specs.Incoming.{IsReadBehind, IsReadForRequest, IsSpared}
+use Rattle.gaz_exchange.specs.Incoming.{IsIncoming, IsReadBehind, IsReadForRequest, IsSpared}
 use Rattle.gaz_exchange.specs.Refusals.{HasBadLength, HasHead, IsUnfinished, NoneBehindRefused}
 use Rattle.gaz_exchange.specs.declared.fault.Fault.{Fault}
 use Rattle.gaz_exchange.specs.declared.framing.Framing.{Framing}
@@ -48,30 +48,21 @@ module _ (before mid after : ℕ) (bytes behind more : List ℕ) (used : OneForE
         let one : OneForEachUsed mid after (behind ++ more) rest = omega (arith, all, whole (omega (arith, all)), length-drop (length body) (behind ++ more)) in
         used_behind rest one
 
-  -- a head's bytes, and those of the body behind it
-  pub read_behind : (h : RequestHead) → BeginsWith (bytes ++ more) h (behind ++ more) → (needed : Needed) → needed.framing ≡ length_of h → (rest : List ℕ) (left : Option (List ℕ)) (came : Incoming)
-      → IsReadBehind mid after (behind ++ more) needed rest left came → IsReadForRequest before after (bytes ++ more) rest left came
-  read_behind h begins needed is rest left (incoming.Request q) one = used_behind rest one
-  read_behind h begins needed is rest left (incoming.Refused fault) one = (
-    all_behind _ one.0,
-    record { behind_head = refused_head h begins needed.framing is one.1; behind_body = whole_body h begins needed.framing is one.1 },
-  )
-  read_behind h begins needed is rest left incoming.Over one = absurd one
-  read_behind h begins needed is rest left (incoming.Failed cause) one = all_behind _ one
-
 module _ (before after : ℕ) (read rest : List ℕ) where
   -- there is no read behind the requests at all
   pub spared_by_used : OneForEachUsed before after read rest → NoneBehindRefused before after read rest
   spared_by_used used = record {
     behind_head = λ fault bad. omega (arith, used, rest_within rest bad.head bad.after bad.begins);
     behind_body = λ head body behind b. omega (arith, used, rest_within rest head b.after b.head, ap length b.whole, length-append body behind);
+    behind_held = λ none long. omega (arith, used, long, length-drop inlet_size rest);
   }
 
-  -- nothing stands behind what isn't there
-  pub spared_by_none : NoHead rest → NoneBehindRefused before after read rest
-  spared_by_none none = record {
+  -- no more bytes than are held, and no head
+  pub spared_by_none : NoHead rest → length rest ≤ inlet_size → NoneBehindRefused before after read rest
+  spared_by_none none short = record {
     behind_head = λ fault bad. absurd (none bad.head bad.after bad.begins);
     behind_body = λ head body behind b. absurd (none head b.after b.head);
+    behind_held = λ none long. omega (arith, short, long);
   }
 
   sized_bad : (size : ℕ) (after_head : List ℕ) → HasHead rest size after_head → (fault : Fault) → HasBadLength rest fault → ⊥
@@ -80,17 +71,41 @@ module _ (before after : ℕ) (read rest : List ℕ) where
       let wrong : Length size ≡ Refused fault = sym has.framed ∙ ap length_of same.0 ∙ bad.framed in
       cc wrong
 
-  pub spared_by_short : IsUnfinished rest → NoneBehindRefused before after read rest
-  spared_by_short (inl none) = spared_by_none none
-  spared_by_short (inr (size, after_head, has, short)) = record {
+  -- a head, and not the whole body behind it
+  pub spared_by_short : (size : ℕ) (after_head : List ℕ) → HasHead rest size after_head → length after_head < size → NoneBehindRefused before after read rest
+  spared_by_short size after_head has short = record {
     behind_head = λ fault bad. absurd (sized_bad size after_head has fault bad);
     behind_body = λ head body behind b. absurd (none_short rest size after_head has short head body behind b);
+    behind_held = λ none long. absurd (none has.head after_head has.begins);
   }
 
--- what is no head stands before nothing
-pub spared_by_bad : (before after : ℕ) (pending all : List ℕ) (left : Option (List ℕ)) → pending ≡ all → (NeverHead pending ⊎ (NoHead pending × IsAtEnd left)) → NoneBehindRefused before after all all
-spared_by_bad before after pending all left e (inl never) = spared_by_none before after all all (subst (λ (l : List ℕ). NoHead l) e (λ h rest b. never [] h rest (rw (append-nil pending) b)))
-spared_by_bad before after pending all left e (inr none) = spared_by_none before after all all (subst (λ (l : List ℕ). NoHead l) e none.0)
+-- a head's bytes, and those of the body behind it
+module _ (before mid after : ℕ) (bytes behind more : List ℕ) (used : OneForEachUsed before mid bytes behind) (h : RequestHead) (begins : BeginsWith (bytes ++ more) h (behind ++ more)) where
+  unfinished : IsUnfinished (bytes ++ more) → NoneBehindRefused before after (bytes ++ more) (bytes ++ more)
+  unfinished (inl none) = absurd (none h (behind ++ more) begins)
+  unfinished (inr (size, after_head, has, short)) = spared_by_short before after (bytes ++ more) (bytes ++ more) size after_head has short
+
+  pub read_behind : (needed : Needed) → needed.framing ≡ length_of h → (routed : Bool) (rest : List ℕ) (left : Option (List ℕ)) (came : Incoming) → IsIncoming routed (bytes ++ more) rest left came
+      → IsReadBehind mid after (behind ++ more) needed rest left came → IsReadForRequest before after (bytes ++ more) rest left came
+  read_behind needed is routed rest left (incoming.Request q) so one = used_behind before mid after bytes behind more used rest one
+  read_behind needed is routed rest left (incoming.Refused fault) so one = (
+    all_behind before mid after bytes behind more used _ one.0,
+    record {
+      behind_head = refused_head before mid after bytes behind more used h begins needed.framing is one.1;
+      behind_body = whole_body before mid after bytes behind more used h begins needed.framing is one.1;
+      behind_held = λ none long. absurd (none h (behind ++ more) begins);
+    },
+  )
+  read_behind needed is routed rest left incoming.Over so one = absurd one
+  read_behind needed is routed rest left (incoming.Failed cause) so one = (all_behind before mid after bytes behind more used _ one, unfinished so)
+
+-- what is no head, in no more bytes than are held
+pub spared_by_open : (before after : ℕ) (pending all : List ℕ) → pending ≡ all → length pending ≤ inlet_size → NoHead pending → NoneBehindRefused before after all all
+spared_by_open before after pending all e short none = spared_by_none before after all all (subst (λ (l : List ℕ). NoHead l) e none) (omega (arith, short, ap length e))
+
+pub spared_by_bad : (before after : ℕ) (pending all : List ℕ) (left : Option (List ℕ)) → pending ≡ all → length pending ≤ inlet_size → (NeverHead pending ⊎ (NoHead pending × IsAtEnd left)) → NoneBehindRefused before after all all
+spared_by_bad before after pending all left e short (inl never) = spared_by_open before after pending all e short (λ h rest b. never [] h rest (rw (append-nil pending) b))
+spared_by_bad before after pending all left e short (inr none) = spared_by_open before after pending all e short none.0
 
 -- the bytes of the requests before it were used
 pub spared_then : (begun reads reads_then : ℕ) (read inlet more : List ℕ) → OneForEachUsed begun reads read inlet → NoneBehindRefused reads reads_then (inlet ++ more) (inlet ++ more)
@@ -98,4 +113,5 @@ pub spared_then : (begun reads reads_then : ℕ) (read inlet more : List ℕ) �
 spared_then begun reads reads_then read inlet more used spared = record {
   behind_head = λ fault bad. used_behind begun reads reads_then read inlet more used bad.after (spared.behind_head fault bad);
   behind_body = λ head body behind b. used_behind begun reads reads_then read inlet more used behind (spared.behind_body head body behind b);
+  behind_held = λ none long. used_behind begun reads reads_then read inlet more used (drop inlet_size (inlet ++ more)) (spared.behind_held none long);
 }

@@ -170,9 +170,10 @@ module _ (d : Door) where
   -- the turn where the reader or the writer fails before a request is whole
   pub turn_of_failure : (is_last was routed : Bool) (before after : ℕ) (pending read rest : List ℕ) (had left held mid : Option (List ℕ)) (old : Seen) (cause : Cause)
       → (was ≡ true → routed ≡ true) → Consumes had left read → Keeps held mid → IsUnfinished (pending ++ read)
-      → OneForEach before after (pending ++ read) (cause ≡ ReadFault) → IsTurn d is_last (passing had left held mid) (standing was before pending old) (standing routed after rest old) (Stopped cause)
+      → OneForEach before after (pending ++ read) (cause ≡ ReadFault) × NoneBehindRefused before after (pending ++ read) (pending ++ read)
+      → IsTurn d is_last (passing had left held mid) (standing was before pending old) (standing routed after rest old) (Stopped cause)
   turn_of_failure is_last was routed before after pending read rest had left held mid old cause stay eaten kept short counted =
-      let out = waits_out is_last routed before after (pending ++ read) rest left old old cause (short, runs_none d old, refl, counted) in
+      let out = waits_out is_last routed before after (pending ++ read) rest left old old cause (short, runs_none d old, refl, counted.0, counted.1) in
       record { read = read; written = []; consumed = eaten; appended = kept_appends_none held mid kept; stay = stay; out = out }
 
   -- the turn at the end

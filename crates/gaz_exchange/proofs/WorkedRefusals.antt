@@ -1,14 +1,18 @@
 -- The worked examples on how often a reader is read for a request that is refused.
-use Rattle.std.proofs.Common.{◌≡◌, ℕ, ◌∷◌, [], List, ◌++◌, length, inr, refl, ap, sym, ◌∙◌, arith, codes, length-append}
+use Rattle.std.proofs.Common.{◌≡◌, ℕ, zero, suc, true, false, ◌∷◌, [], List, ◌++◌, length, drop, inr, refl, ap, sym, ◌∙◌, arith, codes}
+use Rattle.std.specs.Prelude.{replicate}
+use Rattle.std.proofs.lemmas.List.{length-drop, length-replicate}
 use Rattle.httparse.specs.Grammar.{print_request}
 use Rattle.httparse.proofs.OnLiterals.{httparse_on_literals}
 use Rattle.httparse.proofs.GrammarLemmas.{request_unique}
-use Rattle.gaz_http.specs.Heads.{BeginsWith}
+use Rattle.gaz_http.specs.Heads.{BeginsWith, NoHead, inlet_size, is_blank}
+use Rattle.gaz_http.specs.Sparing.{OneForEachUsed}
+use Rattle.gaz_http.proofs.HeadFacts.{head_inside}
 use Rattle.gaz_http.specs.WorkedClosings.{header}
 use Rattle.gaz_steps.specs.declared.refusal.DoorRefusal.TheVariants.{TooLarge}
 use Rattle.gaz_exchange.specs.Framing.{length_of}
 use Rattle.gaz_exchange.specs.Refusals.{HasBadLength}
-use Rattle.gaz_exchange.specs.WorkedRefusals.{IsReadFor, WorkedLarge, WorkedRefusals, WorkedWhole, large, large_bytes}
+use Rattle.gaz_exchange.specs.WorkedRefusals.{IsReadFor, WorkedLarge, WorkedRefusals, WorkedWhole, large, large_bytes, lines}
 use Rattle.gaz_exchange.specs.WorkedStreams.{asking_bytes, cut_bytes, posted, posting_bytes}
 use Rattle.gaz_exchange.specs.declared.fault.Fault.TheVariants.{Door}
 use Rattle.gaz_exchange.specs.declared.framing.Framing.TheVariants.{Length, Refused}
@@ -44,6 +48,7 @@ large_each = record {
       let same = request_unique (large_bytes ++ codes "abc") large head (codes "abc") b.after large_head.reads b.head.reads in
       let wrong : Refused (Door TooLarge) ≡ Length (length body) = sym large_framed ∙ ap length_of same.0 ∙ b.framed in
       absurd (cc wrong);
+  behind_held = λ none long. absurd (none large (codes "abc") large_head);
 }
 
 large_behind : IsReadFor 70 (large_bytes ++ codes "abc") → ⊥
@@ -65,6 +70,7 @@ whole_each = record {
       let rest : 43 ≡ length behind = ap length same.2 in
       let all : length (posting_bytes ++ asking_bytes) ≡ 109 = refl in
       omega (arith, rest, all);
+  behind_held = λ none long. absurd (none posted.head (codes "abc" ++ asking_bytes) (posted_head asking_bytes));
 }
 
 whole_behind : IsReadFor 67 (posting_bytes ++ asking_bytes) → ⊥
@@ -74,12 +80,37 @@ whole_behind spared =
     let one = spared.behind_body posted.head posted.body asking_bytes (posted_request asking_bytes) in
     omega (arith, rest, all, one)
 
+-- ---- empty lines
+
+blank_lines : (n : ℕ) → is_blank (replicate n 10) ≡ true
+blank_lines zero = refl
+blank_lines (suc n) = blank_lines n
+
+no_head_lines : NoHead lines
+no_head_lines h rest b =
+    let wrong : true ≡ false = sym (blank_lines 9000) ∙ ap is_blank b.reads.1 ∙ head_inside h rest in
+    cc wrong
+
+lines_each : IsReadFor 8193 lines
+lines_each = record {
+  behind_head = λ fault bad. absurd (no_head_lines bad.head bad.after bad.begins);
+  behind_body = λ head body behind b. absurd (no_head_lines head b.after b.head);
+  behind_held = λ none long. omega (arith, length-replicate {A = ℕ} 9000 10, length-drop inlet_size lines);
+}
+
+lines_behind : IsReadFor 8194 lines → ⊥
+lines_behind spared =
+    let all : length lines ≡ 9000 = length-replicate {A = ℕ} 9000 10 in
+    let one : OneForEachUsed 0 8194 lines (drop inlet_size lines) = spared.behind_held no_head_lines (omega (arith, all)) in
+    omega (arith, all, one, length-drop inlet_size lines)
+
 on_cut : (reads : ℕ) → IsReadFor reads cut_bytes
-on_cut reads = spared_by_short 0 reads cut_bytes cut_bytes (inr (3, codes "ab", cut_is, omega arith))
+on_cut reads = spared_by_short 0 reads cut_bytes cut_bytes 3 (codes "ab") cut_is (omega arith)
 
 pub worked_refusals_hold : WorkedRefusals
 worked_refusals_hold = record {
   on_large = record { refused = large_refused; each_of_head = large_each; not_behind = large_behind };
   on_whole = record { each_of_request = whole_each; not_behind = whole_behind };
+  on_lines = record { each_of_held = lines_each; not_behind = lines_behind };
   on_cut = on_cut;
 }

@@ -64,7 +64,7 @@ IsReadForRequest before after bytes rest left (incoming.Refused fault) =
 IsReadForRequest before after bytes rest left incoming.Over =
     OneForEach before after bytes (IsAtEnd left)
 IsReadForRequest before after bytes rest left (incoming.Failed cause) =
-    OneForEach before after bytes (cause ≡ ReadFault)
+    OneForEach before after bytes (cause ≡ ReadFault) × NoneBehindRefused before after bytes bytes
 
 -- what comes behind a head: after are the bytes that were pending or read
 abbrev pub IsBehind : List ℕ → Needed → List ℕ → Option (List ℕ) → Incoming → Type 0

@@ -1,8 +1,8 @@
 -- Requests that are refused before they are whole, after which the conversation ends.
-use Rattle.std.specs.Prelude.{◌≡◌, ℕ, ◌<◌, ◌⊎◌, List, length, Option, true}
+use Rattle.std.specs.Prelude.{◌≡◌, ℕ, ◌<◌, ◌⊎◌, List, length, drop, Option, true}
 use Rattle.std.specs.Io.KnownBytes.{IsAtEnd}
 use Rattle.httparse.specs.Grammar.{RequestHead}
-use Rattle.gaz_http.specs.Heads.{BeginsWith, IsOver, NeverHead, NoHead}
+use Rattle.gaz_http.specs.Heads.{BeginsWith, IsOver, NeverHead, NoHead, inlet_size}
 use Rattle.gaz_http.specs.Sparing.{OneForEachUsed}
 use Rattle.gaz_exchange.specs.Exchanges.{BeginsWithRequest}
 use Rattle.gaz_exchange.specs.Framing.{length_of}
@@ -56,6 +56,9 @@ pub record NoneBehindRefused (before after : ℕ) (read rest : List ℕ) : Type 
   -- behind a whole request, for whose body there was no memory
   pub behind_body : (head : RequestHead) (body behind : List ℕ) →
       BeginsWithRequest rest head body behind → OneForEachUsed before after read behind
+  -- behind as many bytes as are held of what is no head
+  pub behind_held : NoHead rest → inlet_size < length rest →
+      OneForEachUsed before after read (drop inlet_size rest)
 
 -- the request at the front of the bytes is refused, by a reply with this text
 pub record IsTurnedAway (bytes : List ℕ) (left : Option (List ℕ)) (text : List ℕ) : Type 0 where

@@ -86,7 +86,7 @@ pub record Exchanges (door : Door) (is_last routed : Bool) (bytes : List ℕ) (e
 abbrev pub Waits : Door → ℕ → ℕ → List ℕ → Seen → Seen → List ℕ → Cause → Type 0
 Waits door before after bytes old new written cause =
     IsUnfinished bytes × Rests door old new × (written ≡ [])
-    × OneForEach before after bytes (cause ≡ ReadFault)
+    × OneForEach before after bytes (cause ≡ ReadFault) × NoneBehindRefused before after bytes bytes
 
 -- the request at the front of the bytes is refused, and the hub isn't asked
 abbrev pub TurnsAway : Door → ℕ → ℕ → List ℕ → Option (List ℕ) → Seen → Seen → List ℕ → Type 0

@@ -1,5 +1,5 @@
 -- Worked examples on how often a reader is read for a request that is refused.
-use Rattle.std.specs.Prelude.{ℕ, List, ◌++◌, ◌∷◌, [], codes}
+use Rattle.std.specs.Prelude.{ℕ, List, ◌++◌, ◌∷◌, [], codes, replicate}
 use Rattle.httparse.specs.Grammar.{RequestHead}
 use Rattle.gaz_http.specs.WorkedClosings.{head, header}
 use Rattle.gaz_steps.specs.declared.refusal.DoorRefusal.TheVariants.{TooLarge}
@@ -30,8 +30,17 @@ pub record WorkedWhole : Type 0 where
   pub each_of_request : IsReadFor 66 (posting_bytes ++ asking_bytes)
   pub not_behind : IsReadFor 67 (posting_bytes ++ asking_bytes) → ⊥
 
+-- 9,000 bytes of LF, which are no head, and more than are held of one
+abbrev pub lines : List ℕ
+lines = replicate 9000 10
+
+pub record WorkedLines : Type 0 where
+  pub each_of_held : IsReadFor 8193 lines
+  pub not_behind : IsReadFor 8194 lines → ⊥
+
 pub record WorkedRefusals : Type 0 where
   pub on_large : WorkedLarge
   pub on_whole : WorkedWhole
+  pub on_lines : WorkedLines
   -- nothing stands behind a body that is cut
   pub on_cut : (reads : ℕ) → IsReadFor reads cut_bytes

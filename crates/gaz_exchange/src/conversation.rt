@@ -110,7 +110,8 @@ fn take_turns<R: Source, W: Sink, K: Inbox + Drop>(
 /// It stops only where the reader or the writer failed. A reader whose reads are counted is read at
 /// most once for each byte, and once more, which finds the end or fails; where no request may
 /// follow, at most once for each byte of the requests. It isn't read for what stands behind a head
-/// whose length is refused, nor behind a whole body for which there was no memory.
+/// whose length is refused, behind a whole body for which there was no memory, or behind the first
+/// 8,193 bytes of what is no head.
 pub fn converse<R: Source, W: Sink, K: Inbox + Drop>(
     alloc: Global,
     r: &mut R,

@@ -1,7 +1,7 @@
-ghost use Rattle.std.specs.Prelude.{◌≡◌};
+ghost use Rattle.std.specs.Prelude.{◌≡◌, ◌≤◌, length};
 ghost use Rattle.std.specs.Io.KnownBytes.{Keeps};
 ghost use Rattle.gaz_http.specs.Failing.{HasFailed};
-ghost use Rattle.gaz_http.specs.Heads.{is_blank};
+ghost use Rattle.gaz_http.specs.Heads.{inlet_size, is_blank};
 ghost use Rattle.gaz_http.specs.Next.{IfHeadFailed, IsLook, IsNext, IsReadForHead};
 ghost use Rattle.gaz_http.specs.Supplies.{Supplies};
 
@@ -86,6 +86,7 @@ pub fn next_head<R: Source, W: Sink>(
 ) -> Next
     ensures read { Supplies R.remaining r.old r.new inlet.old inlet.new
         (λ _ left. IsNext inlet.new left headers.new result) }
+    ensures short { length inlet.new ≤ inlet_size }
     ensures counted { IsReadForHead (R.reads r.old) (R.reads r.new) inlet.new (R.remaining r.new)
         result }
     ensures written { Keeps (W.contents w.old) (W.contents w.new) }
