@@ -23,8 +23,9 @@ APPLIED = b'{"outcome":"applied"}\n'
 NOT_THERE = b'{"refusal":17}\n'
 LARGE = b"a" * 1_048_577
 MOST_REQUESTS = 1_000  # of a connection
-PATIENCE = 28.0  # seconds for which a silent peer is waited for
-SOON = 32.0  # seconds after which the next one is answered: one more once all is told, and what a busy machine adds
+PATIENCE = 28.0  # seconds for which a peer is waited for that sends nothing
+TAKING = 9.0  # seconds for which one write waits for a peer that takes nothing
+SOON = 40.0  # seconds after which the next one is answered: 30, and what a busy machine adds
 FEW_BYTES = 4_096  # that a peer takes, once the system's buffers are full
 
 
@@ -150,8 +151,8 @@ def who_breaks_off_harms_nobody(room: Room) -> str | None:
         return served.ended() if told == (404, NOT_THERE) else f"it replies {told}"
 
 
-def next_answered(room: Room, store: Path, said: bytes) -> str | None:
-    """What is wrong with when the next peer is answered, behind one that says this, and then says nothing and takes nothing."""
+def next_answered(room: Room, store: Path, said: bytes, waits: float) -> str | None:
+    """What is wrong with when the next peer is answered, behind one that says this, and then says nothing and takes nothing, and is waited for so long at least."""
     with room.serves(2, store) as served, socket.socket() as silent:
         silent.setsockopt(socket.SOL_SOCKET, socket.SO_RCVBUF, FEW_BYTES)
         silent.connect(("127.0.0.1", served.port))
@@ -162,7 +163,7 @@ def next_answered(room: Room, store: Path, said: bytes) -> str | None:
         client.close()
         if told != (404, NOT_THERE):
             return f"it replies {told}"
-        return served.ended() if PATIENCE - 1 < took < SOON else f"the next is answered after {took:.1f} s"
+        return served.ended() if waits - 1 < took < SOON else f"the next is answered after {took:.1f} s"
 
 
 def who_is_silent_is_given_up(room: Room) -> str | None:
@@ -170,9 +171,10 @@ def who_is_silent_is_given_up(room: Room) -> str | None:
     stores, file = [room.store() for _ in range(3)], room.folder / "chain.csv"
     file.write_bytes(chain(1, MOST_CHANGES))
     subprocess.run(room.words("submit", stores[2], "1001", "1", str(file)), check=True, stdout=subprocess.DEVNULL)
-    said = b"", b"POST /custodians/1001/volumes/2 HTTP/1.1\r\nContent-Length: 53\r\n\r\n10,1,", get("/extract/1001/1") * 200
-    with ThreadPoolExecutor(len(said)) as workers:
-        faults = list(workers.map(lambda pair: next_answered(room, *pair), zip(stores, said)))
+    cut = b"POST /custodians/1001/volumes/2 HTTP/1.1\r\nContent-Length: 53\r\n\r\n10,1,"
+    peers = (b"", PATIENCE), (cut, PATIENCE), (get("/extract/1001/1") * 200, TAKING)
+    with ThreadPoolExecutor(len(peers)) as workers:
+        faults = list(workers.map(lambda store, peer: next_answered(room, store, *peer), stores, peers))
     return next((f"peer {number}: {fault}" for number, fault in enumerate(faults, 1) if fault), None)
 
 

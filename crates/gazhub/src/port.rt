@@ -5,8 +5,12 @@ use std::io::{self, BufWriter, Read};
 use std::net::{Shutdown, TcpListener, TcpStream};
 use std::time::Duration;
 
-/// The seconds for which a peer is waited for that sends nothing or takes nothing.
+/// The seconds for which a peer is waited for that sends nothing.
 const PATIENCE: u64 = 28;
+
+/// The seconds for which a write waits. The system ends one only then, also one of which it took a
+/// part, so that a peer that takes nothing is waited for two or three times as long.
+const TAKING: u64 = 9;
 
 /// The seconds for which one is waited for once all is told.
 const PARTING: u64 = 1;
@@ -15,16 +19,15 @@ const PARTING: u64 = 1;
 const READS: u32 = 64;
 
 /// The next peer, to read from and to write to. What is written leaves at once where it is flushed,
-/// and nobody waits longer for the peer than `PATIENCE`.
+/// and no read waits longer for the peer than `PATIENCE`, no write than `TAKING`.
 pub fn accepted(
     alloc: Global,
     listener: &TcpListener,
 ) -> io::Result<(TcpStream, BufWriter<TcpStream>)> {
     let (stream, _) = listener.accept()?;
-    let patience = Some(Duration::from_secs(PATIENCE));
     stream.set_nodelay(true)?;
-    stream.set_read_timeout(patience)?;
-    stream.set_write_timeout(patience)?;
+    stream.set_read_timeout(Some(Duration::from_secs(PATIENCE)))?;
+    stream.set_write_timeout(Some(Duration::from_secs(TAKING)))?;
     let w = BufWriter::new(alloc, stream.try_clone()?)?;
     Ok((stream, w))
 }
