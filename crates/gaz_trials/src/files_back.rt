@@ -20,28 +20,31 @@ const FILES: &[File<'static>] = &[
     (NOTHING, 1001, 1),
 ];
 
+// Whose file it is, and which volume.
+fn place_of(file: File<'_>) -> Result<(Code, Volume), Fail> {
+    let code = Code::of(file.1).ok_or("code")?;
+    let volume = Volume::of(file.2).ok_or("volume")?;
+    Ok((code, volume))
+}
+
 // What is written of a file that was read.
 fn rewritten(alloc: Global, file: File<'_>) -> Result<Vec<u8>, Fail> {
-    let (bytes, code, volume) = file;
-    let code = Code::of(code).ok_or("code")?;
-    let volume = Volume::of(volume).ok_or("volume")?;
-    let read = read_file(alloc, bytes, code, volume)?;
+    let (code, volume) = place_of(file)?;
+    let read = read_file(alloc, file.0, code, volume)?;
     Ok(write_file(alloc, &read, code, volume)?)
 }
 
-// The row of an item says one of the same row and the same key.
+// Whether the row of an item says one of the same row and the same key.
 fn is_said_again(alloc: Global, item: &Item) -> Result<bool, Fail> {
     let row = item_text(alloc, item)?;
     let again = item_of_text(alloc, item.kind(), &row)?;
     Ok(item_text(alloc, &again)? == row && key_of(&again) == key_of(item))
 }
 
-// The rows of all items of a file do.
+// Whether the row of each item of a file says that item again.
 fn are_said_again(alloc: Global, file: File<'_>) -> Result<bool, Fail> {
-    let (bytes, code, volume) = file;
-    let code = Code::of(code).ok_or("code")?;
-    let volume = Volume::of(volume).ok_or("volume")?;
-    for change in &read_file(alloc, bytes, code, volume)?.changes {
+    let (code, volume) = place_of(file)?;
+    for change in &read_file(alloc, file.0, code, volume)?.changes {
         if !is_said_again(alloc, &change.item)? {
             return Ok(false);
         }
