@@ -17,8 +17,9 @@ use gaz_register::{GrowFault, Register};
 use sqlite::Alter;
 use thiserror::Error;
 
-/// Why a store's register didn't grow. They are looked for in this order, but that `Fault` comes
-/// first where it isn't known for that whose the store is; `Memory` may come in place of any.
+/// Why a store's register didn't grow, in the order in which that is looked for. But `Fault` comes
+/// first where the database failed while it was asked whose the store is, and `Memory` may come in
+/// place of any.
 #[derive(Clone, Copy, Debug, Error)]
 pub enum ExtendFault {
     #[error("the store is of another register")]
@@ -96,7 +97,8 @@ impl<S: Alter> Tables<S> {
     ///
     /// In this order: `OtherRegister` where the row isn't of this register, `RemovedCustodian`
     /// where one of its custodians isn't in the grown one, `ChangedBlocks` where one has other
-    /// blocks there, `Fault` where the database failed; `Memory` may come in place of any.
+    /// blocks there. `Fault` where the database failed, before all of these where it failed while
+    /// it was asked whose the row is; `Memory` may come in place of any.
     pub fn grow(&mut self, register: &Register, grown: &Register) -> Result<(), ExtendFault>
         ensures alters { AltersTables self.old self.new (as_kept result)
             (Registers (register_text grown.now)) }

@@ -1,5 +1,5 @@
 -- The worked examples on how often a reader is read for a request that is refused.
-use Rattle.std.proofs.Common.{◌≡◌, ℕ, zero, suc, true, false, ◌∷◌, [], List, ◌++◌, length, drop, inr, refl, ap, sym, ◌∙◌, arith, codes}
+use Rattle.std.proofs.Common.{◌≡◌, ℕ, zero, suc, true, false, ◌∷◌, [], ◌++◌, length, drop, refl, ap, sym, ◌∙◌, arith, codes}
 use Rattle.std.specs.Prelude.{replicate}
 use Rattle.std.proofs.lemmas.List.{length-drop, length-replicate}
 use Rattle.httparse.specs.Grammar.{print_request}
@@ -12,7 +12,7 @@ use Rattle.gaz_http.specs.WorkedClosings.{header}
 use Rattle.gaz_steps.specs.declared.refusal.DoorRefusal.TheVariants.{TooLarge}
 use Rattle.gaz_exchange.specs.Framing.{length_of}
 use Rattle.gaz_exchange.specs.Refusals.{HasBadLength}
-use Rattle.gaz_exchange.specs.WorkedRefusals.{IsReadFor, WorkedLarge, WorkedRefusals, WorkedWhole, large, large_bytes, lines}
+use Rattle.gaz_exchange.specs.WorkedRefusals.{IsReadFor, WorkedRefusals, large, large_bytes, lines}
 use Rattle.gaz_exchange.specs.WorkedStreams.{asking_bytes, cut_bytes, posted, posting_bytes}
 use Rattle.gaz_exchange.specs.declared.fault.Fault.TheVariants.{Door}
 use Rattle.gaz_exchange.specs.declared.framing.Framing.TheVariants.{Length, Refused}

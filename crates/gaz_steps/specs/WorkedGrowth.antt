@@ -1,16 +1,18 @@
 -- Worked examples on a register that grows beneath a hub.
-use Rattle.std.specs.Prelude.{◌≡◌, true, false, List, [], ◌∷◌, ◌++◌, None, Some, codes}
+use Rattle.std.specs.Prelude.{◌≡◌, true, false, List, [], ◌∷◌, ◌++◌, None, Some, Ok, codes}
 use Rattle.gaz_changefile.specs.Profile.{profile_of}
 use Rattle.gaz_register.specs.Growing.{Extends}
 use Rattle.gaz_register.specs.Registers.{RegisterValue}
-use Rattle.gaz_steps.specs.Growth.{AbidesGrown, AreUnder, Period, asked_in, first_ever}
-use Rattle.gaz_steps.specs.Growth.{last_register, said_in}
+use Rattle.gaz_steps.specs.Examples.{gap_hub, late_hub}
+use Rattle.gaz_steps.specs.Growth.{AbidesGrown, AreUnder, Period, SettledGrownRun, asked_in}
+use Rattle.gaz_steps.specs.Growth.{first_ever, last_register, said_in}
 use Rattle.gaz_steps.specs.Hubs.{door_of}
 use Rattle.gaz_steps.specs.Runs.{ends_settled, first_received}
 use Rattle.gaz_steps.specs.Sample.{sample_custodians}
-use Rattle.gaz_steps.specs.Step.{Command, Response, Submit, Submitted, new_hub}
+use Rattle.gaz_steps.specs.Step.{Command, Pose, Replied, Response, Submit, Submitted, new_hub}
 use Rattle.gaz_steps.specs.declared.answer.Answer.TheVariants.{New, Refused}
 use Rattle.gaz_steps.specs.declared.outcome.Outcome.TheVariants.{Rejected}
+use Rattle.gaz_steps.specs.declared.question.Question.TheVariants.{Settle}
 use Rattle.gaz_steps.specs.declared.refusal.DoorRefusal.TheVariants.{UnknownCustodian}
 use Rattle.gaz_steps.specs.declared.refusal.Refusal.TheVariants as refusal
 
@@ -41,6 +43,16 @@ sends_twice =
     record { register = sample_custodians; commands = sends; responses = refused }
     ∷ record { register = with_new_town; commands = sends; responses = answered } ∷ []
 
+-- it is told to settle before it joined, and nothing is asked afterwards
+abbrev pub settles_first : List Period
+settles_first =
+    record {
+      register = sample_custodians;
+      commands = Pose Settle ∷ [];
+      responses = Replied Settle (Ok tt) ∷ [];
+    }
+    ∷ record { register = with_new_town; commands = []; responses = [] } ∷ []
+
 pub record WorkedGrowth : Type 0 where
   pub joins : Extends sample_custodians with_new_town
   pub never_leaves : Extends with_new_town sample_custodians → ⊥
@@ -66,3 +78,8 @@ pub record WorkedGrowth : Type 0 where
   -- a hub that has it not doesn't abide
   pub never_lost : profile_of [] ≡ None
       → AbidesGrown sample_custodians new_hub sends_twice new_hub → ⊥
+  -- settled before the register grew, a hub stands there after it; one that isn't settled comes of
+  -- no such periods
+  pub settled : SettledGrownRun with_new_town gap_hub
+  pub settled_by : settled.periods ≡ settles_first
+  pub never_unsettled : SettledGrownRun with_new_town late_hub → ⊥

@@ -16,16 +16,16 @@ use gaz_register::Register;
 use sqlite::Alter;
 
 impl<S: Alter, R: OfRegister> Store<S, R> {
-    /// Puts a grown register in place of the store's, which is to be the given one, in the tables
-    /// and then in the caller's hands. No judgement is in progress.
+    /// Puts a grown register in place of the store's, in its tables and in the caller's hands. No
+    /// judgement is in progress.
     ///
-    /// In this order: `OtherRegister` where the store isn't of the given one, `RemovedCustodian`
-    /// where one of its custodians isn't in the grown one, `ChangedBlocks` where one has other
-    /// blocks there, `Fault` where the database failed, which comes first where it isn't known for
-    /// that whose the store is; `Memory` may come in place of any. After each of them tables and
-    /// register are as before. What is received and judged stays, whatever the answer. A stop
-    /// within the call leaves what it could before, or the same under the grown register; that only
-    /// where it is a growth.
+    /// Refused, in this order: `OtherRegister` where the store isn't of the given register,
+    /// `RemovedCustodian` where one of its custodians isn't in the grown one, `ChangedBlocks` where
+    /// one has other blocks there. `Fault` where the database failed: before all of these where it
+    /// failed while it was asked whose the store is, behind them else. `Memory` may come in place
+    /// of any. After each of them tables and register are as they were. What is received and judged
+    /// stays, whatever the answer. A stop within the call leaves what it could before or, where the
+    /// grown register is a growth, the same under that.
     pub fn extend(&mut self, register: &mut Register, grown: Register) -> Result<(), ExtendFault>
         requires { IsNotOpen (progress_of self.old.judging) }
         ensures keeps { KeepsContent (seen_in (register_text register.old) self.old)
