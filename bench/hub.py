@@ -261,5 +261,12 @@ def answer(source, sink, most=MOST, hub=None):
             return
 
 
+def replies_to(requests, hub=None):
+    """What a hub replies to requests, one after another; a new one where none is given."""
+    sink = io.BytesIO()
+    answer(io.BytesIO(b"".join(requests)), sink, hub=hub)
+    return sink.getvalue()
+
+
 if __name__ == "__main__":
     answer(sys.stdin.buffer, sys.stdout.buffer)

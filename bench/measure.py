@@ -65,6 +65,20 @@ def moment_of(child, taken, size):
     return time.perf_counter()
 
 
+def rows_of(parts, names, measured):
+    """The rows of the parts that are named, as `files` names `files_rows`; of all where none is."""
+    for part in parts:
+        if not names or part.__name__.removesuffix("_rows") in names:
+            yield from part(measured)
+
+
+def print_rows(rows, *wanted):
+    """Prints rows that are measured in a folder, each as soon as it is there."""
+    with tempfile.TemporaryDirectory() as made:
+        for row in rows(made, *wanted):
+            print("  ".join(row), flush=True)
+
+
 def medians(rounds):
     """The median of each column of rounds."""
     return [statistics.median(column) for column in zip(*rounds, strict=True)]

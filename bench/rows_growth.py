@@ -7,10 +7,9 @@ Changes come in files of 1,000, updates all over the gazetteer, inserts behind w
 """
 import os
 import sys
-import tempfile
 
 import streams
-from measure import ROUNDS, Talk
+from measure import ROUNDS, Talk, print_rows, rows_of
 from sides import Opened, Place, begun, in_turn, over_sqlite, played, with_memory
 
 ITEMS = int(os.environ.get("ITEMS", "1000000"))  # of the largest gazetteer
@@ -86,12 +85,8 @@ PARTS = (play_rows, serve_rows)
 
 
 def rows(folder, names=()):
-    for part in PARTS:
-        if not names or part.__name__.removesuffix("_rows") in names:
-            yield from part(folder)
+    return rows_of(PARTS, names, folder)
 
 
 if __name__ == "__main__":
-    with tempfile.TemporaryDirectory() as made:
-        for row in rows(made, sys.argv[1:]):
-            print("  ".join(row), flush=True)
+    print_rows(rows, sys.argv[1:])

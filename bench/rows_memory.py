@@ -9,10 +9,9 @@ import re
 import shutil
 import subprocess
 import sys
-import tempfile
 
 import streams
-from measure import ROUNDS, in_file, medians, seconds, seconds_behind
+from measure import ROUNDS, in_file, medians, print_rows, rows_of, seconds, seconds_behind
 from sides import IN_MEMORY, Place, played, with_memory
 
 REPEATS, LOOK_UPS, HOMES = 99_000, 99_000, 30_000
@@ -91,13 +90,8 @@ PARTS = (repeats_rows, look_ups_rows, changes_rows)
 
 
 def rows(folder, names=()):
-    place = Place(folder)
-    for part in PARTS:
-        if not names or part.__name__.removesuffix("_rows") in names:
-            yield from part(place)
+    return rows_of(PARTS, names, Place(folder))
 
 
 if __name__ == "__main__":
-    with tempfile.TemporaryDirectory() as made:
-        for row in rows(made, sys.argv[1:]):
-            print("  ".join(row), flush=True)
+    print_rows(rows, sys.argv[1:])

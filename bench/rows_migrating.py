@@ -8,13 +8,12 @@ import os
 import sqlite3
 import subprocess
 import sys
-import tempfile
 import threading
 import time
 from contextlib import closing
 
 import streams
-from measure import ROUNDS, TOP, medians
+from measure import ROUNDS, TOP, medians, print_rows
 from sides import Place
 
 SIZES = (100_000,)
@@ -104,18 +103,14 @@ def migrating_rows(place, count):
     yield "its log", f"{log / size:.2f} times the file (at most 2)", f"{log / 1e6:.0f} MB"
 
 
-def rows(folder):
-    for count in SIZES:
+def rows(folder, counts=SIZES):
+    for count in counts:
         yield from migrating_rows(Place(folder), count)
 
 
 def million_rows(folder):
-    for count in MILLION:
-        yield from migrating_rows(Place(folder), count)
+    return rows(folder, MILLION)
 
 
 if __name__ == "__main__":
-    with tempfile.TemporaryDirectory() as made:
-        for wanted in map(int, sys.argv[1:] or SIZES):
-            for row in migrating_rows(Place(made), wanted):
-                print("  ".join(row), flush=True)
+    print_rows(rows, [int(word) for word in sys.argv[1:]] or SIZES)

@@ -8,12 +8,11 @@ which takes the files anew. Sizes are of rows. A store of 1,000,000 rows takes l
 import os
 import sqlite3
 import sys
-import tempfile
 import time
 from contextlib import closing
 
 import streams
-from measure import ROUNDS, blocked_peak, in_file, least_seconds, medians, program, register_of, seconds
+from measure import ROUNDS, blocked_peak, in_file, least_seconds, medians, print_rows, program, register_of, seconds
 from sides import IN_MEMORY, SAMPLE, Place, over_sqlite, pages_for
 
 SIZES = (60_000, 600_000)
@@ -107,6 +106,7 @@ def million_rows(folder):
 
 
 if __name__ == "__main__":
-    with tempfile.TemporaryDirectory() as made:
-        for row in sized_rows(made, map(int, sys.argv[1:])) if sys.argv[1:] else rows(made):
-            print("  ".join(row), flush=True)
+    if sys.argv[1:]:
+        print_rows(sized_rows, [int(word) for word in sys.argv[1:]])
+    else:
+        print_rows(rows)

@@ -5,10 +5,9 @@ one property of 50,000 with addresses; and a file of 5,000 cross references of o
     bench/rows_passing.py [PART..]   only these of play and serve
 """
 import sys
-import tempfile
 
 import streams
-from measure import ROUNDS
+from measure import ROUNDS, print_rows
 from rows_growth import by_play, by_serve
 from sides import Place, begun, in_turn, with_memory
 
@@ -70,6 +69,4 @@ def rows(folder, names=()):
 
 
 if __name__ == "__main__":
-    with tempfile.TemporaryDirectory() as made:
-        for row in rows(made, sys.argv[1:]):
-            print("  ".join(row), flush=True)
+    print_rows(rows, sys.argv[1:])

@@ -1,10 +1,9 @@
 """What a hub costs over connections on loopback: `gazhub serve` over a store in a file, asked a request at a time, beside Python's `http.server` with plain hubs,
 and beside the keeper in memory, which is asked so over its standard input and output."""
 import statistics
-import tempfile
 
 import streams
-from measure import ROUNDS, Talk, medians
+from measure import ROUNDS, Talk, medians, print_rows
 from sides import IN_MEMORY, MANY, Place, Taking, begun, commit_alone, http_server
 
 LOOK_UPS, FILES, HOMES = 20_000, 2_000, 2_500
@@ -47,6 +46,4 @@ def rows(folder):
 
 
 if __name__ == "__main__":
-    with tempfile.TemporaryDirectory() as made:
-        for row in rows(made):
-            print("  ".join(row), flush=True)
+    print_rows(rows)

@@ -6,34 +6,26 @@ that TMPDIR names.
 
     bench/rows_store.py [TITLE..]   only the rows whose functions have these names, as files or rejected
 """
-import io
 import statistics
 import sys
-import tempfile
 
 import hub
 import hub_sqlite
 import random_streams
 import streams
 import volumes
-from measure import ROUNDS, Talk, medians, seconds
+from measure import ROUNDS, Talk, medians, print_rows, rows_of, seconds
 from sides import FEWEST, IN_MEMORY, PAGE, Opened, Place, anew, begun, behind, commit_alone, over_sqlite, pages_for, with_memory
 
 LOOK_UPS, REPEATS, LISTS, EXTRACTS = 20_000, 20_000, 3, 3  # of a round
 FILES, VOLUMES = 60, 2_000
 
 
-def told_by(plain, requests):
-    sink = io.BytesIO()
-    hub.answer(io.BytesIO(b"".join(requests)), sink, hub=plain)
-    return sink.getvalue()
-
-
 def agree(streams_of=20):
     """The plain hub over sqlite3 replies as the plain hub does to random streams."""
     for seed in range(1, streams_of + 1):
         requests = random_streams.stream_of(seed)
-        assert told_by(hub.Hub(), requests) == told_by(hub_sqlite.StoredHub(":memory:"), requests), f"over sqlite3 the replies to stream {seed} differ"
+        assert hub.replies_to(requests) == hub.replies_to(requests, hub_sqlite.StoredHub(":memory:")), f"over sqlite3 the replies to stream {seed} differ"
 
 
 def sides_over(place, store):
@@ -150,13 +142,8 @@ PARTS = (reading_rows, call_rows, files_rows, one_by_one_rows, rejected_rows, me
 
 def rows(folder, names=()):
     agree()
-    place = Place(folder)
-    for part in PARTS:
-        if not names or part.__name__.removesuffix("_rows") in names:
-            yield from part(place)
+    return rows_of(PARTS, names, Place(folder))
 
 
 if __name__ == "__main__":
-    with tempfile.TemporaryDirectory() as made:
-        for row in rows(made, sys.argv[1:]):
-            print("  ".join(row), flush=True)
+    print_rows(rows, sys.argv[1:])

@@ -1,20 +1,18 @@
 """Tests of `asked`, over small programs in a temporary folder."""
 
-import io
 import sys
-import tempfile
 import unittest
 from pathlib import Path
 
 from checks import asked
 from checks.asked import Case, Step
 from checks.conversations import requests_in
+from checks.in_folder import InAFolder
 from checks.large import APPLIED, told
 from checks.stores import Hubs, post
+from checks.wanting import plain
 
 TOP = Path(__file__).resolve().parent.parent
-sys.path.insert(0, str(TOP / "bench"))
-import hub as plain  # noqa: E402
 
 # The plain hub, which says that it looked two items up for each file, and asked so often for what is received.
 PLAIN = f"""#!{sys.executable} -S
@@ -32,17 +30,9 @@ SILENT = PLAIN.partition("print")[0]
 FILES = [told(post(1001, volume, b"10,1,1001,%d,2024-01-02\n99,0\n" % volume), APPLIED) for volume in (1, 2)]
 
 
-class Asking(unittest.TestCase):
-    def setUp(self) -> None:
-        folder = tempfile.TemporaryDirectory()
-        self.addCleanup(folder.cleanup)
-        self.folder = Path(folder.name)
-
+class Asking(InAFolder):
     def hubs(self, text: str) -> Hubs:
-        program = self.folder / "gaz_bench"
-        program.write_text(text)
-        program.chmod(0o755)
-        return Hubs(program, self.folder / "register.toml")
+        return Hubs(self.program(text), self.folder / "register.toml")
 
     def fault(self, text: str, calls: tuple[str, ...], least: int, most: int) -> str | None:
         """What is wrong with the second of two files, for which the keeper may be asked so often."""
@@ -74,9 +64,9 @@ class Generated(unittest.TestCase):
     def test_the_plain_hub_answers_so(self) -> None:
         for case in asked.cases():
             if case not in asked.CHAINS:  # (it walks them anew from each property)
-                hub, told = plain.Hub({code: ([], []) for code in range(1, asked.CUSTODIANS + 1)} if case.custodians else plain.REGISTER), io.BytesIO()
-                plain.answer(io.BytesIO(b"".join(step.turn.request for step in case.steps)), told, hub=hub)
-                self.assertEqual(b"".join(step.turn.reply for step in case.steps), told.getvalue(), case.name)
+                hub = plain.Hub({code: ([], []) for code in range(1, asked.CUSTODIANS + 1)} if case.custodians else plain.REGISTER)
+                told = plain.replies_to([step.turn.request for step in case.steps], hub)
+                self.assertEqual(b"".join(step.turn.reply for step in case.steps), told, case.name)
 
     def test_each_step_is_a_request(self) -> None:
         for case in asked.cases():

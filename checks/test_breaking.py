@@ -2,11 +2,11 @@
 
 import errno
 import sys
-import tempfile
 import unittest
 from pathlib import Path
 
 from checks.breaking import EVER, SOURCE, Broken, Side, Stream, breaks, calm, fault_of, faults_of, prefixes, readers, stays, worked, writers
+from checks.in_folder import InAFolder
 from checks.preloading import library
 from checks.runs import CUT_OFF, GET, READ_FAULT, REPLY, WRITE_FAULT
 from checks.stores import Hubs
@@ -64,13 +64,16 @@ ends("")
 """
 
 
-class Breaking(unittest.TestCase):
+class WithTheLibrary(InAFolder):
     def setUp(self) -> None:
-        folder = tempfile.TemporaryDirectory()
-        self.addCleanup(folder.cleanup)
-        self.root = Path(folder.name)
-        self.preloaded = library(SOURCE, self.root)
+        super().setUp()
+        self.preloaded = library(SOURCE, self.folder)
 
+    def in_python(self, text: str) -> Path:
+        return self.program(f"#!{sys.executable} -IS\n{text}")
+
+
+class Breaking(WithTheLibrary):
     def copied(self, reads: Side, writes: Side) -> tuple[bytes, bytes]:
         ran = breaks([sys.executable, "-c", COPYING], self.preloaded, b"a" * 150, reads, writes)
         return ran.stdout, ran.stderr
@@ -96,17 +99,9 @@ class Breaking(unittest.TestCase):
         self.assertEqual(self.copied(Side(), Side(at=30, times=2)), (b"a" * 150, b"2 5 0"))
 
 
-class Running(unittest.TestCase):
-    def setUp(self) -> None:
-        folder = tempfile.TemporaryDirectory()
-        self.addCleanup(folder.cleanup)
-        self.program = Path(folder.name) / "program"
-        self.preloaded = library(SOURCE, Path(folder.name))
-
+class Running(WithTheLibrary):
     def faults(self, text: str, runs: list[Broken]) -> list[str | None]:
-        self.program.write_text(f"#!{sys.executable} -IS\n{text}")
-        self.program.chmod(0o755)
-        return faults_of(self.program, self.preloaded, runs)
+        return faults_of(self.in_python(text), self.preloaded, runs)
 
     def some(self) -> list[Broken]:
         runs = [*readers(TWO), *prefixes(TWO), *writers(TWO), *calm(TWO)]
@@ -119,7 +114,8 @@ class Running(unittest.TestCase):
     def test_a_run_by_itself_ends_alike(self) -> None:
         fails = Broken("", GET, Side(at=len(GET), error=errno.EIO, times=EVER), Side(), 3, READ_FAULT, REPLY, REPLY)
         for text, runs in ((RIGHT, self.some()[::5]), (RIGHT.replace("3 if", "1 if"), [fails]), (RIGHT.replace("put(REPLY)", "put(REPLY * 2)"), [fails])):
-            self.assertEqual(self.faults(text, runs), [fault_of(self.program, self.preloaded, run) for run in runs])
+            program = self.in_python(text)
+            self.assertEqual(faults_of(program, self.preloaded, runs), [fault_of(program, self.preloaded, run) for run in runs])
 
     def test_what_is_wrong_is_told(self) -> None:
         fails = Broken("", GET, Side(at=len(GET), error=errno.EIO, times=EVER), Side(), 3, READ_FAULT, REPLY, REPLY)
@@ -146,11 +142,9 @@ class Running(unittest.TestCase):
         once = Broken("", GET, Side(), Side(at=9, times=1), 3, WRITE_FAULT, REPLY[:9], REPLY)
         self.assertEqual(self.faults(RIGHT, [once]), [None])
 
-
     def test_a_program_that_never_reads_is_reported(self) -> None:
-        self.program.write_text("#!/bin/sh\nexit 3\n")
-        self.program.chmod(0o755)
-        self.assertEqual(["0 of 2 runs ended, and the process that forked them by 3"], faults_of(self.program, self.preloaded, self.some()[:2]))
+        program = self.program("#!/bin/sh\nexit 3\n")
+        self.assertEqual(["0 of 2 runs ended, and the process that forked them by 3"], faults_of(program, self.preloaded, self.some()[:2]))
 
 
 # Keeps what it is asked in a file, and tells how many requests it has.
@@ -180,14 +174,10 @@ while piece := os.read(0, 1):
 FORGETTING = KEEPING.replace("        keep(had)\n", "").replace('        had = b""', '        keep(had)\n        had = b""')
 
 
-class Staying(unittest.TestCase):
+class Staying(WithTheLibrary):
     def fault(self, text: str, at: int) -> str | None:
-        with tempfile.TemporaryDirectory() as made:
-            folder, program = Path(made), Path(made, "gaz_bench")
-            program.write_text(f"#!{sys.executable} -IS\n{text}")
-            program.chmod(0o755)
-            hubs = Hubs(program, folder / "register.toml")
-            return stays(hubs, library(SOURCE, folder), folder, TWO, at)
+        hubs = Hubs(self.in_python(text), self.folder / "register.toml")
+        return stays(hubs, self.preloaded, self.new_folder(), TWO, at)
 
     def test_a_right_program_passes(self) -> None:
         for at in (0, len(REPLY), 2 * len(REPLY)):

@@ -1,10 +1,9 @@
 """Tests of the list of calls over stores, by a program that answers otherwise."""
 
-import tempfile
 import unittest
-from pathlib import Path
 
 from checks import calls
+from checks.in_folder import InAFolder, small_program
 from checks.stores import built
 
 # It answers otherwise where it is asked by this word, or where a store is there already.
@@ -16,14 +15,10 @@ if word == "{bad}" or pathlib.Path(store).exists():
 """
 
 
-class Calls(unittest.TestCase):
+class Calls(InAFolder):
     def faults(self, bad: str) -> list[str | None]:
-        with tempfile.TemporaryDirectory() as made:
-            program = built(Path(made), "gaz_bench")
-            program.parent.mkdir(parents=True)
-            program.write_text(PROGRAM.format(bad=bad))
-            program.chmod(0o755)
-            return [fault for _, fault in calls.run_all(Path(made))]
+        small_program(built(self.folder, "gaz_bench"), PROGRAM.format(bad=bad))
+        return [fault for _, fault in calls.run_all(self.folder)]
 
     def test_all_is_answered(self) -> None:
         self.assertEqual([None] * 2, self.faults(""))

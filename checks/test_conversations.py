@@ -1,8 +1,6 @@
 """Tests of `conversations`, over small programs in a temporary folder."""
 
-import io
 import sys
-import tempfile
 import unittest
 from pathlib import Path
 
@@ -17,6 +15,7 @@ from checks.conversations import (
     run_stepwise,
     run_whole,
 )
+from checks.in_folder import InAFolder
 from checks.wanting import plain
 
 TOP = Path(__file__).resolve().parent.parent
@@ -100,25 +99,18 @@ class Comparing(unittest.TestCase):
         )
 
 
-class InAFolder(unittest.TestCase):
-    def setUp(self) -> None:
-        folder = tempfile.TemporaryDirectory()
-        self.addCleanup(folder.cleanup)
-        self.root = Path(folder.name)
-
-    def program(self, text: str) -> Path:
-        path = self.root / "program"
-        path.write_text(BEGINNING + text + "\n")
-        path.chmod(0o755)
-        return path
+class WithFiles(InAFolder):
+    def behind(self, text: str) -> Path:
+        """A program of this text behind its beginning."""
+        return self.program(BEGINNING + text + "\n")
 
     def write(self, name: str, text: bytes) -> None:
-        path = self.root / name
+        path = self.folder / name
         path.parent.mkdir(parents=True, exist_ok=True)
         path.write_bytes(text)
 
 
-class Finding(InAFolder):
+class Finding(WithFiles):
     def test_pairs_are_found_in_both_folders(self) -> None:
         self.write("conversations/a.http", GET)
         self.write("conversations/a.replies", REPLY)
@@ -126,23 +118,23 @@ class Finding(InAFolder):
         self.write("docs/tour/1.replies", b"")
         self.write("docs/tour/README.md", b"")
         self.assertEqual(
-            find(self.root), [Conversation("conversations/a", GET, REPLY), Conversation("docs/tour/1", b"", b"")]
+            find(self.folder), [Conversation("conversations/a", GET, REPLY), Conversation("docs/tour/1", b"", b"")]
         )
 
     def test_what_is_no_pair_is_named(self) -> None:
         self.write("conversations/a.http", GET)
         self.write("docs/tour/b.replies", REPLY)
         with self.assertRaisesRegex(BadConversations, "conversations/a, docs/tour/b"):
-            find(self.root)
+            find(self.folder)
 
     def test_none_at_all_are_a_fault(self) -> None:
         with self.assertRaises(BadConversations):
-            find(self.root)
+            find(self.folder)
 
 
-class Running(InAFolder):
+class Running(WithFiles):
     def faults(self, text: str, conversation: Conversation = TWICE, deadline: float = 60) -> list[str | None]:
-        program = self.program(text)
+        program = self.behind(text)
         return [run(program, conversation, deadline) for run in (run_whole, run_stepwise)]
 
     def test_a_right_program_passes(self) -> None:
@@ -153,7 +145,7 @@ class Running(InAFolder):
             self.assertIn(r"differs at byte 80, in line 8: wanted 'ok\n', got 'oK\n'", fault)
 
     def test_a_reply_that_waits_for_the_end_of_the_input_is_reported(self) -> None:
-        program = self.program(AT_THE_END)
+        program = self.behind(AT_THE_END)
         self.assertIsNone(run_whole(program, TWICE))
         self.assertIn("the reply to request 1, none within 1 s", run_stepwise(program, TWICE, 1))
 
@@ -186,7 +178,7 @@ class Running(InAFolder):
     def test_all_are_run_both_ways(self) -> None:
         self.write("conversations/twice.http", TWICE.requests)
         self.write("conversations/twice.replies", TWICE.replies)
-        ran = run_all(self.program(WRONG_IN_A_BYTE), self.root)
+        ran = run_all(self.behind(WRONG_IN_A_BYTE), self.folder)
         self.assertEqual([how for _, how, _ in ran], ["as one stream", "request by request"])
         self.assertTrue(all(name == "conversations/twice" and fault for name, _, fault in ran))
 
@@ -194,9 +186,7 @@ class Running(InAFolder):
 class Worked(unittest.TestCase):
     def test_the_plain_hub_replies_what_is_written_to_each(self) -> None:
         for one in find(TOP):
-            sink = io.BytesIO()
-            plain.answer(io.BytesIO(one.requests), sink)
-            self.assertIsNone(difference(one.replies, sink.getvalue()), one.name)
+            self.assertIsNone(difference(one.replies, plain.replies_to([one.requests])), one.name)
 
 
 if __name__ == "__main__":

@@ -1,10 +1,9 @@
 """Tests of the plain hubs in Python where a property passes between custodians."""
 
-import io
-import tempfile
 import unittest
 from pathlib import Path
 
+from checks.in_folder import InAFolder
 from checks.tables import rows_of
 from checks.wanting import plain
 from checks.written import PASSED, SECOND, text_of
@@ -209,7 +208,7 @@ class Holding(unittest.TestCase):
             self.assertEqual([(200, there[0]), (404, 17), (200, there[1])], replies)
 
 
-class Rows(unittest.TestCase):
+class Rows(InAFolder):
     def test_what_became_of_a_number_stands_in_rows_of_kind_92(self) -> None:
         hub = hub_sqlite.StoredHub(":memory:")
         for code, volume, *lines in (*THERE, *BACK):
@@ -225,12 +224,11 @@ class Rows(unittest.TestCase):
         self.assertEqual(wanted, hub.conn.execute(asked).fetchall())
 
     def test_they_are_as_written(self) -> None:
-        with tempfile.TemporaryDirectory() as made:
-            store = Path(made) / "store"
-            hub = hub_sqlite.StoredHub(str(store))
-            plain.answer(io.BytesIO(PASSED.requests(TOP)), io.BytesIO(), hub=hub)
-            hub.conn.close()
-            self.assertEqual(SECOND.rows(PASSED), text_of(rows_of(store)))
+        store = self.folder / "store"
+        hub = hub_sqlite.StoredHub(str(store))
+        plain.replies_to([PASSED.requests(TOP)], hub)
+        hub.conn.close()
+        self.assertEqual(SECOND.rows(PASSED), text_of(rows_of(store)))
 
     def test_two_changes_of_a_volume_leave_one_row(self) -> None:
         hub = hub_sqlite.StoredHub(":memory:")

@@ -1,6 +1,5 @@
 """Tests of `damages` and `damaged`, over hubs that answer what they are told to."""
 
-import tempfile
 import unittest
 from dataclasses import dataclass
 from pathlib import Path
@@ -9,6 +8,7 @@ from checks import damaged, damages, ground, tables
 from checks.conversations import requests_in
 from checks.foreign import REFUSED
 from checks.history import QUESTIONS
+from checks.in_folder import InAFolder
 from checks.stores import TEXT, Answered, Hubs
 from checks.written import SECOND
 
@@ -52,17 +52,9 @@ OF_A_TEXT = damages.Damage("no UTF-8", lambda it: damages.by_sql(it, "UPDATE ver
 OF_A_PAGE = damages.Damage("a page", lambda it: damages.by_bytes(it, 1, "noise"))
 
 
-class InAFolder(unittest.TestCase):
-    def setUp(self) -> None:
-        folder = tempfile.TemporaryDirectory()
-        self.addCleanup(folder.cleanup)
-        self.folder = Path(folder.name)
-
-
 class Enduring(InAFolder):
     def fault(self, damage: damages.Damage = OF_A_ROW, **what) -> str | None:
-        with tempfile.TemporaryDirectory(dir=self.folder) as made:
-            return damaged.endures(ground.ground(Telling(Path(), Path(), **what), Path(made)), damage, RIGHT)
+        return damaged.endures(ground.ground(Telling(Path(), Path(), **what), self.new_folder()), damage, RIGHT)
 
     def test_a_right_program_passes(self) -> None:
         for damage in (OF_A_ROW, OF_A_PAGE):

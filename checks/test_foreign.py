@@ -1,11 +1,11 @@
 """Tests of `foreign`, `sharing`, `tables` and `schema2`, over hubs that answer what they are told to."""
 
-import tempfile
 import unittest
 from dataclasses import dataclass, field
 from pathlib import Path
 
 from checks import foreign, ground, history, schema2, sharing, tables
+from checks.in_folder import InAFolder
 from checks.stores import TEXT, Answered, Hubs, get
 from checks.written import SECOND, STORES
 
@@ -50,13 +50,6 @@ def telling(**what) -> Telling:
     return Telling(Path(), Path(), **what)
 
 
-class InAFolder(unittest.TestCase):
-    def setUp(self) -> None:
-        folder = tempfile.TemporaryDirectory()
-        self.addCleanup(folder.cleanup)
-        self.folder = Path(folder.name)
-
-
 class Reading(InAFolder):
     def test_the_page_has_the_statements(self) -> None:
         self.assertEqual(SCHEMA, tables.schema_in(TOP / "docs" / "tables.md"))
@@ -97,9 +90,8 @@ class Damaging(InAFolder):
 
     def test_another_refusal_or_none_is_reported(self) -> None:
         for answered in (Answered(0, b"", ""), Answered(3, b"", "gaz_bench: OtherRegister\n"), Answered(3, b"x", NO_STORE.said)):
-            with tempfile.TemporaryDirectory() as made:
-                on = ground.ground(telling(answered=answered), Path(made))
-                self.assertIn("wanted", foreign.refuses(on, foreign.REFUSALS[0]))
+            on = ground.ground(telling(answered=answered), self.new_folder())
+            self.assertIn("wanted", foreign.refuses(on, foreign.REFUSALS[0]))
 
     def test_each_damage_is_done(self) -> None:
         on = ground.ground(telling(), self.folder)

@@ -4,13 +4,13 @@ import os
 import signal
 import subprocess
 import sys
-import tempfile
 import threading
 import time
 import unittest
 from pathlib import Path
 
 from checks import gate, measure, outside
+from checks.in_folder import InAFolder
 from checks.test_trying import RIGHT, small_crate
 
 CHECK = Path(__file__).resolve().parent.parent / "check"
@@ -29,29 +29,25 @@ def said(words: list[str], root: Path, path: str | None = None) -> tuple[int, st
     return ran.returncode, ran.stderr
 
 
-class BadInput(unittest.TestCase):
+class BadInput(InAFolder):
     def test_outside_a_repository(self):
-        with tempfile.TemporaryDirectory() as made:
-            status, text = said([], Path(made))
+        status, text = said([], self.folder)
         self.assertEqual((2, "check: it runs at the top of the repository, where crates.txt stands\n"), (status, text))
 
     def test_an_unknown_crate(self):
-        with tempfile.TemporaryDirectory() as made:
-            small_tree(Path(made))
-            for words in (["--crate", "large"], ["--edits", "small", "large"]):
-                self.assertEqual((2, "check: crates.txt names no crate large\n"), said(words, Path(made)))
+        small_tree(self.folder)
+        for words in (["--crate", "large"], ["--edits", "small", "large"]):
+            self.assertEqual((2, "check: crates.txt names no crate large\n"), said(words, self.folder))
 
     def test_without_the_kit(self):
-        with tempfile.TemporaryDirectory() as made:
-            small_tree(Path(made))
-            status, text = said([], Path(made), path="/nowhere")
+        small_tree(self.folder)
+        status, text = said([], self.folder, path="/nowhere")
         self.assertEqual((2, 1), (status, text.count("\n")))
         self.assertIn("no rt on the path", text)
 
     def test_words_that_say_nothing(self):
-        with tempfile.TemporaryDirectory() as made:
-            small_tree(Path(made))
-            self.assertEqual(2, said(["--quickly"], Path(made))[0])
+        small_tree(self.folder)
+        self.assertEqual(2, said(["--quickly"], self.folder)[0])
 
 
 def wait_for(happened, seconds: float) -> bool:
@@ -62,40 +58,38 @@ def wait_for(happened, seconds: float) -> bool:
     return happened()
 
 
-class Interrupted(unittest.TestCase):
+class Interrupted(InAFolder):
     def test_an_interrupt_leaves_the_tree_as_it_was(self):
-        with tempfile.TemporaryDirectory() as made, tempfile.TemporaryDirectory() as rooms:
-            small_tree(Path(made), RIGHT)
-            before = sorted(str(it) for it in Path(made).rglob("*") if ".git" not in it.parts)
-            words = [sys.executable, CHECK, "--edits", "small"]
-            env = {**os.environ, "TMPDIR": rooms}
-            running = subprocess.Popen(words, cwd=made, env=env, stdout=subprocess.DEVNULL, stderr=subprocess.PIPE)
-            # (its first check has begun once it has a room, and there are three)
-            began = wait_for(lambda: any(it.startswith("check-edit-") for it in os.listdir(rooms)), 50)
-            running.send_signal(signal.SIGINT)
-            _, text = running.communicate(timeout=300)
-            after = sorted(str(it) for it in Path(made).rglob("*") if ".git" not in it.parts)
-            left = os.listdir(rooms)
+        tree, rooms = self.new_folder(), self.new_folder()
+        small_tree(tree, RIGHT)
+        before = sorted(str(it) for it in tree.rglob("*") if ".git" not in it.parts)
+        words = [sys.executable, CHECK, "--edits", "small"]
+        env = {**os.environ, "TMPDIR": str(rooms)}
+        running = subprocess.Popen(words, cwd=tree, env=env, stdout=subprocess.DEVNULL, stderr=subprocess.PIPE)
+        # (its first check has begun once it has a room, and there are three)
+        began = wait_for(lambda: any(it.startswith("check-edit-") for it in os.listdir(rooms)), 50)
+        running.send_signal(signal.SIGINT)
+        _, text = running.communicate(timeout=300)
+        after = sorted(str(it) for it in tree.rglob("*") if ".git" not in it.parts)
+        left = os.listdir(rooms)
         self.assertTrue(began, text)
         self.assertEqual(130, running.returncode, text)
         self.assertEqual((before, []), (after, left))
 
 
-class TheSteps(unittest.TestCase):
+class TheSteps(InAFolder):
     def test_programs_that_are_not_built_are_told(self):
         account = gate.Account()
-        with tempfile.TemporaryDirectory() as made:
-            gate.keep(Path(made), Path(made), account)
+        gate.keep(self.folder, self.folder, account)
         self.assertEqual((0, ["stores from outside"]), (account.passed, account.failed))
 
     def test_pages_are_counted(self):
         account = gate.Account()
-        with tempfile.TemporaryDirectory() as made:
-            small_tree(Path(made))
-            Path(made, "docs").mkdir()
-            Path(made, "README.md").write_text("[It](docs/nowhere.md)\n")
-            Path(made, "docs", "hub.md").write_text("[It](../README.md)\n")
-            gate.read_pages(Path(made), account)
+        small_tree(self.folder)
+        (self.folder / "docs").mkdir()
+        (self.folder / "README.md").write_text("[It](docs/nowhere.md)\n")
+        (self.folder / "docs" / "hub.md").write_text("[It](../README.md)\n")
+        gate.read_pages(self.folder, account)
         self.assertEqual((1, ["page README.md"]), (account.passed, account.failed))
 
     def test_a_fault_is_a_failure(self):

@@ -1,12 +1,11 @@
 """Tests of `growing`, over a small program, and of the streams by which the register of `bench/agree` grows."""
 
-import io
 import sys
-import tempfile
 import unittest
 from pathlib import Path
 
 from checks import growing
+from checks.in_folder import InAFolder
 from checks.sessions import NEW_TOWN
 from checks.stores import SAMPLE
 from checks.wanting import plain
@@ -48,14 +47,11 @@ store.write_text(json.dumps([told, [(*pair, data.decode()) for pair, data in it.
 """
 
 
-class Growing(unittest.TestCase):
+class Growing(InAFolder):
     def fault(self, old: str = "", new: str = "") -> str | None:
         self.assertIn(old, PROGRAM)
-        with tempfile.TemporaryDirectory() as made:
-            program = Path(made) / "gazhub"
-            program.write_text(PROGRAM.replace(old, new) if old else PROGRAM)
-            program.chmod(0o755)
-            return growing.grows_between_connections(program, Path(made))
+        program = self.program(PROGRAM.replace(old, new) if old else PROGRAM)
+        return growing.grows_between_connections(program, self.folder)
 
     def test_a_right_program_passes(self) -> None:
         self.assertIsNone(self.fault())
@@ -76,12 +72,6 @@ class Growing(unittest.TestCase):
         self.assertEqual([grown.count(it) - SAMPLE.count(it) for it in ("uprn =", "usrn =", "1004")], [1, 1, 1])
 
 
-def told(hub: plain.Hub, requests: list[bytes]) -> bytes:
-    sink = io.BytesIO()
-    plain.answer(io.BytesIO(b"".join(requests)), sink, hub=hub)
-    return sink.getvalue()
-
-
 class Streams(unittest.TestCase):
     def halves(self, seed: int) -> tuple[list[bytes], list[bytes]]:
         stream = streams.grown_stream_of(seed)
@@ -95,7 +85,7 @@ class Streams(unittest.TestCase):
             before, behind = self.halves(seed)
             early = [it for it in before if it.startswith(b"POST /custodians/1004/")]
             sent, again = sent + len(early), again + sum(it in behind for it in early)
-            held += told(plain.Hub(), before).count(b'"wants":{"custodian":1004,')
+            held += plain.replies_to(before).count(b'"wants":{"custodian":1004,')
         self.assertTrue(sent // 2 < again <= sent and held, (sent, again, held))
 
     def test_a_growth_leaves_what_was_judged(self) -> None:
@@ -104,19 +94,19 @@ class Streams(unittest.TestCase):
             questions = [it for it in before if it.startswith((b"GET /extract/100", b"GET /custodians/1001/"))]
             questions = [it for it in questions if b"/1004" not in it]
             hub = plain.Hub()
-            told(hub, before)
-            left = told(hub, questions)
+            plain.replies_to(before, hub)
+            left = plain.replies_to(questions, hub)
             hub.grow(streams.GROWN)
-            self.assertEqual(left, told(hub, questions))
+            self.assertEqual(left, plain.replies_to(questions, hub))
 
     def test_a_hub_that_grew_is_one_that_was_grown_at_first(self) -> None:
         for seed in range(5):
             before, behind = self.halves(seed)
             grew, grown = plain.Hub(), plain.Hub(streams.GROWN)
-            told(grew, before)
+            plain.replies_to(before, grew)
             grew.grow(streams.GROWN)
-            told(grown, [it for it in before if not it.startswith(b"POST /custodians/1004/")])
-            self.assertEqual(told(grew, behind), told(grown, behind))
+            plain.replies_to([it for it in before if not it.startswith(b"POST /custodians/1004/")], grown)
+            self.assertEqual(plain.replies_to(behind, grew), plain.replies_to(behind, grown))
 
     def test_a_hub_of_the_sample_register_is_as_before(self) -> None:
         self.assertEqual({1001, 1002, 1003}, set(plain.Hub().views))

@@ -1,12 +1,12 @@
 """Tests of `handed_on`, over hubs that answer what they are told to."""
 
-import tempfile
 import unittest
 from dataclasses import dataclass
 from pathlib import Path
 
 from checks import ground, handed_on, schema2, tables
 from checks.conversations import requests_in
+from checks.in_folder import InAFolder
 from checks.stores import Answered, Hubs
 from checks.written import SECOND
 
@@ -39,14 +39,12 @@ class Telling(Hubs):
         return Answered(0, b"".join(map(reply, bodies)), "")
 
 
-class InAFolder(unittest.TestCase):
+class OverStores(InAFolder):
     def on(self, **what) -> ground.Ground:
-        folder = tempfile.TemporaryDirectory()
-        self.addCleanup(folder.cleanup)
-        return ground.ground(Telling(Path(), Path(), **what), Path(folder.name))
+        return ground.ground(Telling(Path(), Path(), **what), self.new_folder())
 
 
-class Rows(InAFolder):
+class Rows(OverStores):
     def test_each_row_is_there(self) -> None:
         on = self.on()
         for name, sql in {**handed_on.HOPS, **handed_on.BESIDE}.items():
@@ -62,7 +60,7 @@ class Rows(InAFolder):
         self.assertNotIn(92, [row[1] for row in handed_on.items(store)])
 
 
-class Beside(InAFolder):
+class Beside(OverStores):
     def fault(self, over: Telling | None = None, **what) -> str | None:
         on = self.on(**what)
         return handed_on.passes_over(on, handed_on.RELEASED.sql(), (over or on.hubs).over)
@@ -77,7 +75,7 @@ class Beside(InAFolder):
         self.assertIn("wanted", self.fault(Telling(Path(), Path(), told=((b"GET /closed", b"[]\n"),))))
 
 
-class OfTheNumber(InAFolder):
+class OfTheNumber(OverStores):
     RIGHT = ((b"POST", OUTCOME), (b"GET /uprn/500", b'{"refusal":17}\n'), (b"1001/4", b"10,E,1001,4\n99,0\n"), (b"1001/5", b"10,E,1001,5\n99,0\n"))
 
     def released(self, *told: tuple[bytes, bytes], sql: str = "") -> str | None:

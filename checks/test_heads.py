@@ -1,14 +1,12 @@
 """Tests of `heads`: the plain hub in Python passes, and a program that takes or refuses another head is reported."""
 
-import io
 import sys
-import tempfile
 import unittest
 import unittest.mock
-from pathlib import Path
 
 from checks.conversations import difference
 from checks.heads import EACH, OVER, REFUSED, TAKEN, cases, first_fault, in_name, in_value, refused, run_all, taken
+from checks.in_folder import InAFolder
 from checks.runs import CUT_OFF, GET, REPLY
 from checks.wanting import plain
 
@@ -25,17 +23,10 @@ while line := sys.stdin.buffer.readline():
 REFUSING = f"#!{sys.executable} -S\nimport sys\nsys.stdin.buffer.read()\nsys.stdout.buffer.write({REPLY + CUT_OFF!r})\n"
 
 
-def told(requests: bytes) -> bytes:
-    """What the plain hub replies to a stream."""
-    sink = io.BytesIO()
-    plain.answer(io.BytesIO(requests), sink)
-    return sink.getvalue()
-
-
 class Heads(unittest.TestCase):
     def test_the_plain_hub_passes(self) -> None:
         for name, them in cases().items():
-            self.assertIsNone(first_fault((it, difference(it.replies, told(it.requests))) for it in them), name)
+            self.assertIsNone(first_fault((it, difference(it.replies, plain.replies_to([it.requests]))) for it in them), name)
 
     def test_each_byte_is_tried_at_each_place(self) -> None:
         tried = [len(them) for them in cases().values()]
@@ -52,15 +43,11 @@ class Heads(unittest.TestCase):
             self.assertEqual((name, value), (CUT_OFF not in in_name(byte).replies, CUT_OFF not in in_value(byte).replies), byte)
 
 
-class Running(unittest.TestCase):
+class Running(InAFolder):
     def faults(self, text: str) -> dict[str, str | None]:
-        with tempfile.TemporaryDirectory() as made:
-            program = Path(made) / "program"
-            program.write_text(text)
-            program.chmod(0o755)
-            few = {"refused": [refused("folded", REFUSED["a folded header"])], "taken": [taken("none", TAKEN["no header"])]}
-            with unittest.mock.patch("checks.heads.cases", lambda: few):
-                return dict(run_all(program))
+        few = {"refused": [refused("folded", REFUSED["a folded header"])], "taken": [taken("none", TAKEN["no header"])]}
+        with unittest.mock.patch("checks.heads.cases", lambda: few):
+            return dict(run_all(self.program(text)))
 
     def test_a_head_that_mustnt_be_taken_is_reported(self) -> None:
         faults = self.faults(TAKING)

@@ -1,10 +1,10 @@
 """Tests of `in_turn`, over small programs in a temporary folder."""
 
 import sys
-import tempfile
 import unittest
 from pathlib import Path
 
+from checks.in_folder import InAFolder, small_program
 from checks.in_turn import BROKEN, refused, run_all
 from checks.stores import built
 
@@ -28,18 +28,10 @@ exit 3
 SILENT = "#!/bin/sh\nexec cat > /dev/null\n"
 
 
-class InTurn(unittest.TestCase):
-    def setUp(self) -> None:
-        folder = tempfile.TemporaryDirectory()
-        self.addCleanup(folder.cleanup)
-        self.room = Path(folder.name)
-
+class InTurn(InAFolder):
     def faults(self, text: str) -> list[str | None]:
-        program = built(self.room, "gaz_bench")
-        program.parent.mkdir(parents=True)
-        program.write_text(text)
-        program.chmod(0o755)
-        ran = run_all(TOP, self.room)
+        small_program(built(self.folder, "gaz_bench"), text)
+        ran = run_all(TOP, self.folder)
         self.assertEqual([broken.name for broken in BROKEN], [name for name, _, _ in ran])
         return [fault for _, _, fault in ran]
 

@@ -2,11 +2,11 @@
 
 import hashlib
 import sys
-import tempfile
 import unittest
 from pathlib import Path
 
 from checks.conversations import replies_in, requests_in, run_whole
+from checks.in_folder import InAFolder
 from checks.large import cases, chain, largest_file, limit_first, run_all
 
 TOP = Path(__file__).resolve().parent.parent
@@ -38,28 +38,18 @@ class Generated(unittest.TestCase):
         self.assertEqual(len(names), len(set(names)))
 
 
-class Running(unittest.TestCase):
-    def setUp(self) -> None:
-        folder = tempfile.TemporaryDirectory()
-        self.addCleanup(folder.cleanup)
-        self.program = Path(folder.name) / "program"
-
-    def write(self, text: str) -> Path:
-        self.program.write_text(text)
-        self.program.chmod(0o755)
-        return self.program
-
+class Running(InAFolder):
     def test_a_right_program_passes(self) -> None:
-        self.assertIsNone(run_whole(self.write(PLAIN), limit_first()))
+        self.assertIsNone(run_whole(self.program(PLAIN), limit_first()))
 
     def test_what_is_missing_is_told_of_each(self) -> None:
-        ran = list(run_all(self.write(SILENT)))
+        ran = list(run_all(self.program(SILENT)))
         self.assertEqual([one.name for one in cases()], [name for name, _ in ran])
         for _, fault in ran:
             self.assertIn("differs at byte 0, in line 1: wanted 'HTTP/1.1 201 Created", fault)
 
     def test_an_exit_status_is_told(self) -> None:
-        for _, fault in run_all(self.write(FAILING)):
+        for _, fault in run_all(self.program(FAILING)):
             self.assertIn("exit status 3", fault)
 
 

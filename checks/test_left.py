@@ -1,13 +1,12 @@
 """Tests of `left`, over small programs in a temporary folder."""
 
 import sys
-import tempfile
 import unittest
-from pathlib import Path
 from unittest import mock
 
 from checks import left
 from checks.conversations import replies_in, requests_in
+from checks.in_folder import InAFolder
 from checks.stores import Hubs
 
 STREET = left.LEAVINGS[0]
@@ -29,20 +28,13 @@ sys.exit(3)
 
 @mock.patch.object(left, "FILES", 1)
 @mock.patch.object(left, "CHANGES", 10)
-class Asking(unittest.TestCase):
-    def setUp(self) -> None:
-        folder = tempfile.TemporaryDirectory()
-        self.addCleanup(folder.cleanup)
-        self.folder = Path(folder.name)
-
+class Asking(InAFolder):
     def fault(self, text: str, more: bytes = b"") -> str | None:
         busy, calm = STREET.replies()
         (self.folder / "busy").write_bytes(busy + more)
         (self.folder / "calm").write_bytes(calm)
-        program = self.folder / "gaz_bench"
-        program.write_text(text)
-        program.chmod(0o755)
-        return left.fault_of(Hubs(program, self.folder / "register.toml"), self.folder, STREET)
+        hubs = Hubs(self.program(text), self.folder / "register.toml")
+        return left.fault_of(hubs, self.folder, STREET)
 
     def test_a_right_program_passes(self) -> None:
         self.assertIsNone(self.fault(ANSWERING))

@@ -1,10 +1,8 @@
 """Tests of `making`, over small programs in a temporary folder."""
 
 import sys
-import tempfile
-import unittest
-from pathlib import Path
 
+from checks.in_folder import InAFolder
 from checks.making import GROUPS, Group, lacking, run_all
 
 # A hub whose store has one table, `meta`.
@@ -25,18 +23,7 @@ TAKEN = Group("status", True, "", ("",))
 NOT_TAKEN = Group("status", True, "BadSchema", ("DROP TABLE meta",))
 
 
-class Making(unittest.TestCase):
-    def setUp(self) -> None:
-        folder = tempfile.TemporaryDirectory()
-        self.addCleanup(folder.cleanup)
-        self.root = Path(folder.name)
-
-    def program(self, text: str) -> Path:
-        path = self.root / "program"
-        path.write_text(text)
-        path.chmod(0o755)
-        return path
-
+class Making(InAFolder):
     def faults(self, text: str, *groups: Group) -> list[str | None]:
         return [fault for _, fault in run_all(self.program(text), groups)]
 

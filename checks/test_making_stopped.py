@@ -1,10 +1,9 @@
 """Tests of `making_stopped`, over small programs that make a store of a file that is given."""
 
 import sys
-import tempfile
 import unittest
-from pathlib import Path
 
+from checks.in_folder import InAFolder
 from checks.making_stopped import PARTS, run_all
 from checks.tables import opened
 
@@ -57,19 +56,14 @@ SOME = ("calls of the file", "the machine stops", "the process is killed", "the 
 MORE = ("one call", "the machine stops, and a file that wasn't synced isn't there")
 
 
-class Stopping(unittest.TestCase):
+class Stopping(InAFolder):
     def setUp(self) -> None:
-        folder = tempfile.TemporaryDirectory()
-        self.addCleanup(folder.cleanup)
-        self.folder = Path(folder.name)
-        with opened(self.folder / "gazhub.store") as conn:
+        super().setUp()
+        with opened(self.folder / "program.store") as conn:
             conn.executescript("CREATE TABLE note (n); INSERT INTO note VALUES (7)")
 
     def faults(self, text: str, *parts: str) -> list[str | None]:
-        program = self.folder / "gazhub"
-        program.write_text(text)
-        program.chmod(0o755)
-        return [fault for _, fault in run_all(program, parts=tuple(NAMED[name] for name in parts))]
+        return [fault for _, fault in run_all(self.program(text), parts=tuple(NAMED[name] for name in parts))]
 
     def test_a_right_program_passes(self) -> None:
         self.assertEqual([None] * 7, self.faults(RIGHT, *SOME, *MORE))

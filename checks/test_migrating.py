@@ -2,13 +2,13 @@
 and answers as the plain hub over it does."""
 
 import sys
-import tempfile
 import unittest
 from pathlib import Path
 
 from checks import migrating, migrating_between, migrating_others, migrating_refused, migrating_stopped, written
 from checks.conversations import Conversation, find
 from checks.history import LATER
+from checks.in_folder import InAFolder, small_program
 from checks.migrating import Place
 from checks.stores import SAMPLE, TEXT, Hubs
 from checks.written import FIRST, SECOND, STORES
@@ -103,18 +103,14 @@ ANY_NUMBER = PROGRAM.replace("rows[0][:2] != (1, number)", "rows[0][0] != 1")
 WRITING = PROGRAM.replace("    except (sqlite3", "    except OSError:\n        pass\n    except (sqlite3").replace('            conn.execute("ROLLBACK")', '            conn.execute("COMMIT")')
 
 
-class Migrating(unittest.TestCase):
+class Migrating(InAFolder):
     def setUp(self) -> None:
-        folder = tempfile.TemporaryDirectory()
-        self.addCleanup(folder.cleanup)
-        self.folder = Path(folder.name)
+        super().setUp()
         (self.folder / "register.toml").write_text(SAMPLE)
 
     def place(self, text: str) -> Place:
-        for name in ("gazhub", "gaz_bench"):
-            (self.folder / name).write_text(text)
-            (self.folder / name).chmod(0o755)
-        return Place(self.folder / "gazhub", Hubs(self.folder / "gaz_bench", self.folder / "register.toml"), self.folder)
+        gazhub, gaz_bench = (small_program(self.folder / name, text) for name in ("gazhub", "gaz_bench"))
+        return Place(gazhub, Hubs(gaz_bench, self.folder / "register.toml"), self.folder)
 
     def fault(self, text: str, name: str = "a_street_and_a_held_file") -> str | None:
         on = self.place(text)

@@ -3,13 +3,13 @@
 import os
 import subprocess
 import sys
-import tempfile
 import unittest
 from dataclasses import replace
 from pathlib import Path
 
 from checks import moments
 from checks.failing import SOURCE, Room
+from checks.in_folder import InAFolder
 from checks.moments import NONE, Watched, calls_in
 from checks.preloading import library
 from checks.test_troubled import WRITING
@@ -17,15 +17,13 @@ from checks.test_troubled import WRITING
 LEFT = {"all": None, "0 0": (0, 0), "1 0": (1, 0), "0 2": (0, 2), "9 9": (9, 9)}
 
 
-class Moments(unittest.TestCase):
+class Moments(InAFolder):
     def setUp(self) -> None:
-        folder = tempfile.TemporaryDirectory()
-        self.addCleanup(folder.cleanup)
-        self.folder = Path(folder.name).resolve()
+        super().setUp()
         self.failing = library(SOURCE, self.folder)
 
     def place(self) -> Path:
-        return Path(tempfile.mkdtemp(dir=self.folder)) / "store"
+        return self.new_folder() / "store"
 
     def ran(self, store: Path, **env: str) -> None:
         env |= {"LD_PRELOAD": str(self.failing), "FAILING_STORE": str(store)}

@@ -1,9 +1,8 @@
 """Tests of `pages`, over a small repository in a temporary folder."""
 
-import tempfile
 import unittest
-from pathlib import Path
 
+from checks.in_folder import InAFolder
 from checks.pages import OTHERS, anchors_of, run_all
 
 FILES = {
@@ -31,15 +30,13 @@ no names, nor is `gone < born`, nor
 """
 
 
-class Reading(unittest.TestCase):
+class Reading(InAFolder):
     def fault(self, page: str, more: dict[str, str] | None = None) -> str | None:
         """What is wrong with this text as the first page of the repository."""
-        with tempfile.TemporaryDirectory() as made:
-            root = Path(made)
-            for name, text in {**FILES, "README.md": page, **(more or {})}.items():
-                (root / name).parent.mkdir(parents=True, exist_ok=True)
-                (root / name).write_text(text)
-            ran = dict(run_all(root))
+        for name, text in {**FILES, "README.md": page, **(more or {})}.items():
+            (self.folder / name).parent.mkdir(parents=True, exist_ok=True)
+            (self.folder / name).write_text(text)
+        ran = dict(run_all(self.folder))
         self.assertEqual(["README.md", "docs/hub.md"], sorted(ran))
         self.assertIsNone(ran["docs/hub.md"])
         return ran["README.md"]
@@ -88,10 +85,9 @@ class Reading(unittest.TestCase):
         self.assertEqual(len(names), len(set(names)))
 
     def test_headings_are_called_as_in_links(self) -> None:
-        with tempfile.TemporaryDirectory() as made:
-            page = Path(made, "page.md")
-            page.write_text("# `play`, and [more](x.md)\n## A-b_c: d's\n")
-            self.assertEqual({"play-and-more", "a-b_c-ds"}, anchors_of(page))
+        page = self.folder / "page.md"
+        page.write_text("# `play`, and [more](x.md)\n## A-b_c: d's\n")
+        self.assertEqual({"play-and-more", "a-b_c-ds"}, anchors_of(page))
 
 
 if __name__ == "__main__":

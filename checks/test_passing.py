@@ -1,6 +1,5 @@
 """Tests of the histories of `bench/agree` in which properties pass between custodians, over the plain hubs in Python."""
 
-import io
 import re
 import unittest
 from collections import Counter
@@ -12,12 +11,6 @@ from checks.wanting import plain
 import hub_sqlite  # (beside the plain hub)
 import passing_streams as streams
 import pieces
-
-
-def told(hub: plain.Hub, requests: list[bytes]) -> bytes:
-    sink = io.BytesIO()
-    plain.answer(io.BytesIO(b"".join(requests)), sink, hub=hub)
-    return sink.getvalue()
 
 
 def chain_of(hub: plain.Hub, uprn: int) -> tuple[list[int], list[int]]:
@@ -47,7 +40,7 @@ class Histories(unittest.TestCase):
         for seed in list(self.SEEDS)[:5]:
             requests = streams.passing_stream_of(seed)
             stored = hub_sqlite.StoredHub(":memory:", streams.SIX)
-            self.assertEqual(told(plain.Hub(streams.SIX), requests), told(stored, requests), seed)
+            self.assertEqual(plain.replies_to(requests, plain.Hub(streams.SIX)), plain.replies_to(requests, stored), seed)
             for code, volume in ((code, reached) for code, reached in stored.judged.items() if reached):
                 self.assertEqual(stored.extract(code, volume)[1].encode() + b"\n", view_in(stored.conn, code, volume))
 
@@ -55,7 +48,7 @@ class Histories(unittest.TestCase):
         longest, rules = Counter(), Counter()
         for seed in self.SEEDS:
             hub = plain.Hub(streams.SIX)
-            rules.update(map(int, re.findall(rb'"rule":(\d+)', told(hub, streams.passing_stream_of(seed)))))
+            rules.update(map(int, re.findall(rb'"rule":(\d+)', plain.replies_to(streams.passing_stream_of(seed), hub))))
             for uprn in streams.CAST.blpus:
                 chain, offered = chain_of(hub, uprn)
                 longest[len(set(chain))] += 1
@@ -75,8 +68,8 @@ class Histories(unittest.TestCase):
             asked = [get(f"/extract/{code}/{volume}") for code, volume, _ in files]
             hubs = [plain.Hub(streams.SIX) for _ in range(2)]
             for hub, them in zip(hubs, (files, files[::-1])):
-                told(hub, [post(*file) for file in them])
-            self.assertEqual(*(told(hub, asked) for hub in hubs))
+                plain.replies_to([post(*file) for file in them], hub)
+            self.assertEqual(*(plain.replies_to(asked, hub) for hub in hubs))
 
 
 class Pieces(unittest.TestCase):

@@ -1,22 +1,19 @@
 """What is kept of edits that were refused: found again for the same texts, and for no others."""
 
-import tempfile
-import unittest
 from pathlib import Path
 
+from checks.in_folder import InAFolder
 from checks.refused import Refused
 from checks.test_trying import RIGHT, small_crate
 
 NAMES = sorted(RIGHT)
 
 
-class OfRefused(unittest.TestCase):
-    def setUp(self):
-        made = tempfile.TemporaryDirectory()
-        self.addCleanup(made.cleanup)
-        self.root = Path(made.name)
-        self.before = Refused(self.root / "kept")
-        self.crate = small_crate(self.root / "one", RIGHT)
+class OfRefused(InAFolder):
+    def setUp(self) -> None:
+        super().setUp()
+        self.before = Refused(self.folder / "kept")
+        self.crate = small_crate(self.folder / "one", RIGHT)
         self.edits = Path(self.crate.folder) / "must-fail"
 
     def noted(self) -> list[str]:
@@ -27,7 +24,7 @@ class OfRefused(unittest.TestCase):
 
     def test_the_same_texts_in_another_checkout(self):
         self.before.note(self.crate, self.edits, NAMES)
-        other = small_crate(self.root / "other", RIGHT)
+        other = small_crate(self.folder / "other", RIGHT)
         self.assertEqual(NAMES, self.before.names(other, Path(other.folder) / "must-fail"))
 
     def test_another_source(self):
@@ -47,6 +44,6 @@ class OfRefused(unittest.TestCase):
         self.assertEqual([], self.noted())
 
     def test_where_nothing_can_be_kept(self):
-        (self.root / "kept").write_text("a file\n")
+        (self.folder / "kept").write_text("a file\n")
         self.before.note(self.crate, self.edits, NAMES)
         self.assertEqual([], self.noted())

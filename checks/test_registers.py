@@ -1,10 +1,9 @@
 """Tests of `registers`, over small programs in a temporary folder."""
 
 import sys
-import tempfile
 import unittest
-from pathlib import Path
 
+from checks.in_folder import InAFolder
 from checks.registers import CASES, KEPT, Case, edited, fault_of, kept_fault, run_all
 
 # Reads a register that has a code, and no more of it; then it looks for the store.
@@ -31,18 +30,7 @@ READ = Case("a code", b"code = 1\n", None)
 REFUSED = Case("no code", b"name = 1\n", "Shape")
 
 
-class Reading(unittest.TestCase):
-    def setUp(self) -> None:
-        folder = tempfile.TemporaryDirectory()
-        self.addCleanup(folder.cleanup)
-        self.root = Path(folder.name)
-
-    def program(self, text: str) -> Path:
-        path = self.root / "program"
-        path.write_text(text)
-        path.chmod(0o755)
-        return path
-
+class Reading(InAFolder):
     def fault(self, text: str, case: Case, deadline: float = 60) -> str | None:
         return fault_of(self.program(text), case, deadline)
 

@@ -1,13 +1,13 @@
 """Tests of `rings`, over small programs in a temporary folder."""
 
 import sys
-import tempfile
 import unittest
 from pathlib import Path
 from unittest import mock
 
 from checks import rings
 from checks.conversations import replies_in, requests_in
+from checks.in_folder import InAFolder
 from checks.rings import SIZES, Ring
 from checks.stores import Hubs
 
@@ -28,17 +28,10 @@ JUDGING = PLAIN.replace("hub.answer(", "if sys.stdin.buffer.peek(1 << 16).count(
 
 @mock.patch.object(rings, "CUSTODIANS", 5)
 @mock.patch.object(rings, "QUESTIONS", 10)
-class Running(unittest.TestCase):
-    def setUp(self) -> None:
-        folder = tempfile.TemporaryDirectory()
-        self.addCleanup(folder.cleanup)
-        self.folder = Path(folder.name)
-
+class Running(InAFolder):
     def fault(self, text: str, run, size: int) -> str | None:
-        program = self.folder / "gaz_bench"
-        program.write_text(text)
-        program.chmod(0o755)
-        return run(Hubs(program, self.folder / "register.toml"), self.folder / "s.db", Ring(size))
+        hubs = Hubs(self.program(text), self.folder / "register.toml")
+        return run(hubs, self.folder / "s.db", Ring(size))
 
     def test_a_right_program_passes(self) -> None:
         for size in (2, 3, 5):

@@ -1,9 +1,8 @@
 """Tests of `runs`, over small programs in a temporary folder."""
 
-import tempfile
 import unittest
-from pathlib import Path
 
+from checks.in_folder import InAFolder
 from checks.runs import GET, READ_FAULT, REPLY, RUNS, WRITE_FAULT, Run, fault_of
 
 # Answers one request at most, with the text of a file beside it, and no words.
@@ -21,14 +20,10 @@ UNHEARD = Run("a word that nobody hears of", ("nonsense",), GET, 2, said_to="/de
 FULL = Run("a full output", (), GET, 3, said=WRITE_FAULT, sink="/dev/full")
 
 
-class Running(unittest.TestCase):
+class Running(InAFolder):
     def fault(self, text: str, run: Run, deadline: float = 60, reply: bytes = REPLY) -> str | None:
-        with tempfile.TemporaryDirectory() as made:
-            program = Path(made) / "program"
-            program.write_text(text)
-            Path(made, "program.reply").write_bytes(reply)
-            program.chmod(0o755)
-            return fault_of(program, run, deadline)
+        (self.folder / "program.reply").write_bytes(reply)
+        return fault_of(self.program(text), run, deadline)
 
     def test_a_right_program_passes(self) -> None:
         for run in (ASKED, WORD, UNHEARD, UNREADABLE, FULL):

@@ -5,13 +5,13 @@ import re
 import shutil
 import sqlite3
 import sys
-import tempfile
 import unittest
 from pathlib import Path
 
 from checks import schema1, tables, written
 from checks.conversations import find, requests_in
 from checks.history import FILES, file_of
+from checks.in_folder import InAFolder
 from checks.stores import TEXT, Hubs, get, post
 from checks.written import FIRST, PASSED, SECOND, STORES
 
@@ -40,19 +40,14 @@ def strays(rows: dict[str, list[tuple]]) -> list[tuple]:
     return [row for row in rows["version"] if not {(row[0], row[7])} | {(row[0], row[8])} - {(row[0], NEVER)} <= applied]
 
 
-class InAFolder(unittest.TestCase):
-    def setUp(self) -> None:
-        folder = tempfile.TemporaryDirectory()
-        self.addCleanup(folder.cleanup)
-        self.folder = Path(folder.name)
-
+class OfStores(InAFolder):
     def left(self, name: str) -> Path:
         """A copy of a file as the last program of schema 1 left it: Python changes what it reads."""
         shutil.copyfile(FIRST.folder / f"{name}.db", self.folder / f"{name}.db")
         return self.folder / f"{name}.db"
 
 
-class Writing(InAFolder):
+class Writing(OfStores):
     def test_a_cell_is_readable(self) -> None:
         self.assertEqual(["7", "'it''s'", "CAST('10,1\n' AS BLOB)"], [written.literal(cell) for cell in (7, "it's", b"10,1\n")])
 
@@ -81,7 +76,7 @@ class Writing(InAFolder):
         self.assertEqual(set(), {it.conversation for it in STORES} - names)
 
 
-class TheSameRows(InAFolder):
+class TheSameRows(OfStores):
     def test_the_last_program_left_them(self) -> None:
         for it in STORES:
             self.assertEqual(FIRST.rows(it), written.text_of(tables.rows_of(self.left(it.name))), it.name)
@@ -136,11 +131,9 @@ sys.exit(3)
 """
 
 
-class Refusing(InAFolder):
+class Refusing(OfStores):
     def refusal(self, does: str = "", word: str = "BadSchema") -> str | None:
-        program = self.folder / "gazhub"
-        program.write_text(PROGRAM.format(does=does, word=word))
-        program.chmod(0o755)
+        program = self.program(PROGRAM.format(does=does, word=word))
         return schema1.refuses_all(program, self.left("history"))
 
     def test_a_right_program_passes(self) -> None:
@@ -155,12 +148,10 @@ class Refusing(InAFolder):
         self.assertIn("submit r.toml 1001 1 file.csv: the refused file was written", self.refusal("if words[0] == 'submit': store.write_bytes(b'')"))
 
     def test_a_hub_that_answers_is_reported(self) -> None:
-        bench = self.folder / "gaz_bench"
-        bench.write_text(PROGRAM.format(does="", word="").replace('words[words.index("--store") + 1]', "words[1]").replace("gazhub: ", "gaz_bench: BadSchema"))
-        bench.chmod(0o755)
-        self.assertIsNone(schema1.holds_on(Hubs(bench, Path()), self.left("history")))
-        bench.write_text(bench.read_text().replace("sys.exit(3)", "sys.exit(0)"))
-        self.assertIn("wanted", schema1.holds_on(Hubs(bench, Path()), self.left("history")))
+        text = PROGRAM.format(does="", word="").replace('words[words.index("--store") + 1]', "words[1]").replace("gazhub: ", "gaz_bench: BadSchema")
+        self.assertIsNone(schema1.holds_on(Hubs(self.program(text), Path()), self.left("history")))
+        answering = self.program(text.replace("sys.exit(3)", "sys.exit(0)"))
+        self.assertIn("wanted", schema1.holds_on(Hubs(answering, Path()), self.left("history")))
 
 
 if __name__ == "__main__":

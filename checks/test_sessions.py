@@ -1,9 +1,8 @@
 """Tests of `sessions`, over small programs in a temporary folder."""
 
-import tempfile
 import unittest
-from pathlib import Path
 
+from checks.in_folder import InAFolder
 from checks.sessions import SESSIONS, Session, Step, fault_of
 
 # Makes the store that is named, says that it is ready, and knows the file of its register.
@@ -25,13 +24,9 @@ SESSION = Session(
 )
 
 
-class Sitting(unittest.TestCase):
+class Sitting(InAFolder):
     def fault(self, text: str, session: Session = SESSION, deadline: float = 60) -> str | None:
-        with tempfile.TemporaryDirectory() as made:
-            program = Path(made) / "program"
-            program.write_text(text)
-            program.chmod(0o755)
-            return fault_of(program, session, deadline)
+        return fault_of(self.program(text), session, deadline)
 
     def test_a_right_program_passes(self) -> None:
         self.assertIsNone(self.fault(RIGHT))

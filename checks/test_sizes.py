@@ -1,12 +1,12 @@
 """Tests of `sizes`, over small programs in a temporary folder."""
 
 import sys
-import tempfile
 import unittest
 from pathlib import Path
 
 from checks.breaking import SOURCE, fault_of
 from checks.conversations import run_whole
+from checks.in_folder import InAFolder
 from checks.preloading import library
 from checks.sizes import MIB, MOST, NO_ROUTE, SMALLEST, cases, long_line, many_headers, most_in_pieces, one_byte_over, unread
 
@@ -44,32 +44,26 @@ class Generated(unittest.TestCase):
         self.assertEqual(most_in_pieces(2).most, NO_ROUTE * 2)
 
 
-class Running(unittest.TestCase):
+class Running(InAFolder):
     def setUp(self) -> None:
-        folder = tempfile.TemporaryDirectory()
-        self.addCleanup(folder.cleanup)
-        self.program = Path(folder.name) / "program"
-        self.preloaded = library(SOURCE, Path(folder.name))
-
-    def write(self, text: str) -> Path:
-        self.program.write_text(text)
-        self.program.chmod(0o755)
-        return self.program
+        super().setUp()
+        self.replies = self.folder / "program.replies"
+        self.preloaded = library(SOURCE, self.folder)
 
     def test_a_right_program_passes(self) -> None:
         for one in cases():
-            Path(f"{self.program}.replies").write_bytes(one.replies)
-            self.assertIsNone(run_whole(self.write(ANSWERING), one), one.name)
-        self.assertIsNone(fault_of(self.write(PLAIN), self.preloaded, most_in_pieces(20)))
+            self.replies.write_bytes(one.replies)
+            self.assertIsNone(run_whole(self.program(ANSWERING), one), one.name)
+        self.assertIsNone(fault_of(self.program(PLAIN), self.preloaded, most_in_pieces(20)))
 
     def test_a_read_behind_a_refusal_is_told(self) -> None:
         for run in unread():
-            Path(f"{self.program}.replies").write_bytes(run.most)
-            self.assertIsNone(fault_of(self.write(ANSWERING), self.preloaded, run), run.name)
-            self.assertIn("exit status 3, wanted 0", fault_of(self.write(READING), self.preloaded, run), run.name)
+            self.replies.write_bytes(run.most)
+            self.assertIsNone(fault_of(self.program(ANSWERING), self.preloaded, run), run.name)
+            self.assertIn("exit status 3, wanted 0", fault_of(self.program(READING), self.preloaded, run), run.name)
 
     def test_what_is_missing_is_told(self) -> None:
-        program = self.write(FAILING)
+        program = self.program(FAILING)
         for one in cases():
             self.assertIn("wanted 'HTTP/1.1 4", run_whole(program, one), one.name)
         self.assertIn("exit status 3, wanted 0", fault_of(program, self.preloaded, most_in_pieces(20)))

@@ -1,6 +1,5 @@
 """Tests of `stocks` and `steps`, over hubs that need as many steps as they are told to."""
 
-import tempfile
 import unittest
 from dataclasses import dataclass
 from pathlib import Path
@@ -8,6 +7,7 @@ from pathlib import Path
 from checks import steps, stocks
 from checks.conversations import requests_in
 from checks.foreign import REFUSED
+from checks.in_folder import InAFolder
 from checks.stores import Answered, get
 
 TOLD = dict(asked for size in (stocks.FEW, stocks.MANY) for asked in stocks.cases(size).values())
@@ -34,12 +34,7 @@ class Needing(steps.Stepping):
         return self.over(store, requests)
 
 
-class Limiting(unittest.TestCase):
-    def setUp(self) -> None:
-        folder = tempfile.TemporaryDirectory()
-        self.addCleanup(folder.cleanup)
-        self.folder = Path(folder.name)
-
+class Limiting(InAFolder):
     def stores(self, **needs) -> tuple[steps.Store, steps.Store]:
         hubs = Needing(Path(), Path(), **needs)
         return tuple(steps.store_of(hubs, self.folder / name, size) for name, size in (("few", stocks.FEW), ("many", stocks.MANY)))

@@ -1,12 +1,12 @@
 """Tests of `changing` and `stopped`, over small programs that change a store by Python's own SQLite."""
 
 import sys
-import tempfile
 import unittest
 from pathlib import Path
 
 from checks.allowed import STOPPED
 from checks.changing import AFTER, BEFORE, Change, told_fault, tried_of
+from checks.in_folder import InAFolder
 from checks.sessions import fails
 from checks.stopped import PARTS, part_fault, room_of, run_all
 from checks.tables import opened
@@ -46,11 +46,9 @@ NAMED = {part.name: part for part in PARTS}
 SOME = ("calls of the log", "the machine stops", "the process is killed")
 
 
-class Stopping(unittest.TestCase):
+class Stopping(InAFolder):
     def setUp(self) -> None:
-        folder = tempfile.TemporaryDirectory()
-        self.addCleanup(folder.cleanup)
-        self.folder = Path(folder.name)
+        super().setUp()
         with opened(self.folder / "ready") as conn:
             conn.executescript("PRAGMA journal_mode = WAL; CREATE TABLE note (n)")
             conn.executemany("INSERT INTO note VALUES (?)", [(n,) for n in range(1, 21)])
@@ -58,12 +56,6 @@ class Stopping(unittest.TestCase):
     def change(self) -> Change:
         asked = ((("least",), (0, b"1\n", b""), (0, b"101\n", b"")),)
         return Change("add", self.folder / "ready", ("add",), (0, b"done\n", b""), (1, b"changed\n", b""), asked)
-
-    def program(self, text: str) -> Path:
-        program = self.folder / "gazhub"
-        program.write_text(text)
-        program.chmod(0o755)
-        return program
 
     def faults(self, text: str, *parts: str, every: int = 3) -> list[str | None]:
         with room_of(self.program(text), {}) as room:

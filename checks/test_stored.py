@@ -2,11 +2,11 @@
 
 import re
 import sys
-import tempfile
 import unittest
 from pathlib import Path
 
 from checks.conversations import Conversation
+from checks.in_folder import InAFolder, small_program
 from checks.stored import WAYS, run_all
 from checks.stores import SAMPLE, TEXT, Answered, Hubs, built, framed, get, hubs_of
 
@@ -39,23 +39,10 @@ sys.exit(3)
 """
 
 
-class OverStores(unittest.TestCase):
-    def setUp(self) -> None:
-        folder = tempfile.TemporaryDirectory()
-        self.addCleanup(folder.cleanup)
-        self.root = Path(folder.name)
-
-    def program(self, name: str, text: str) -> Path:
-        path = built(self.root, name)
-        path.parent.mkdir(parents=True, exist_ok=True)
-        path.write_text(text)
-        path.chmod(0o755)
-        return path
-
+class OverStores(InAFolder):
     def faults(self, text: str, conversation: Conversation = TWICE) -> list[str | None]:
-        program = self.program("gaz_bench", text)
-        hubs = Hubs(program, self.root / "register.toml")
-        return [run(hubs, self.root / f"store-{at}", conversation) for at, (_, run) in enumerate(WAYS)]
+        hubs = Hubs(self.program(text), self.folder / "register.toml")
+        return [run(hubs, self.folder / f"store-{at}", conversation) for at, (_, run) in enumerate(WAYS)]
 
     def test_a_right_program_passes(self) -> None:
         self.assertEqual([None] * 3, self.faults(COUNTING))
@@ -80,11 +67,11 @@ class OverStores(unittest.TestCase):
 
     def test_all_are_run_each_way(self) -> None:
         for name, text in (("a.http", TWICE.requests), ("a.replies", TWICE.replies)):
-            path = self.root / "conversations" / name
+            path = self.folder / "conversations" / name
             path.parent.mkdir(exist_ok=True)
             path.write_bytes(text)
-        self.program("gaz_bench", COUNTING)
-        ran = run_all(self.root, self.root)
+        small_program(built(self.folder, "gaz_bench"), COUNTING)
+        ran = run_all(self.folder, self.folder)
         self.assertEqual([("conversations/a", how, None) for how, _ in WAYS], ran)
 
     def test_how_a_run_ends(self) -> None:

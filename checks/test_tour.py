@@ -1,9 +1,9 @@
 """Tests of `tour`, over small programs and pages in a temporary folder."""
 
-import tempfile
 import unittest
 from pathlib import Path
 
+from checks.in_folder import InAFolder
 from checks.tour import FILES, PAGES, Shown, run_all, shown_in
 
 TEXT = """# A page
@@ -28,19 +28,15 @@ case "$1" in init) : > "$3"; echo ready;; line) echo none; exit 1;; esac
 """
 
 
-class Touring(unittest.TestCase):
+class Touring(InAFolder):
     def faults(self, program: str, text: str = TEXT) -> list[str | None]:
-        with tempfile.TemporaryDirectory() as made:
-            root, path = Path(made), Path(made) / "program"
-            path.write_text(program)
-            path.chmod(0o755)
-            (root / FILES).mkdir(parents=True)
-            for page in PAGES:
-                (root / page).write_text(text)
-            faults = [fault for _, fault in run_all(path, root)]
-            self.assertEqual([Path(PAGES[0]).name], [it.name for it in (root / FILES).iterdir()])
-            self.assertEqual(faults[: len(faults) // 2], faults[len(faults) // 2 :])  # (the pages are the same)
-            return faults[: len(faults) // 2]
+        (self.folder / FILES).mkdir(parents=True)
+        for page in PAGES:
+            (self.folder / page).write_text(text)
+        faults = [fault for _, fault in run_all(self.program(program), self.folder)]
+        self.assertEqual([Path(PAGES[0]).name], [it.name for it in (self.folder / FILES).iterdir()])
+        self.assertEqual(faults[: len(faults) // 2], faults[len(faults) // 2 :])  # (the pages are the same)
+        return faults[: len(faults) // 2]
 
     def test_commands_are_read_off_the_page(self) -> None:
         self.assertEqual(

@@ -3,14 +3,13 @@
 import os
 import subprocess
 import sys
-import tempfile
 import unittest
 from collections import Counter
 from concurrent.futures import ThreadPoolExecutor
-from pathlib import Path
 
 from checks.allowed import STOPPED, Along, Ended, Received, is_few
 from checks.failing import SOURCE, framed, sent
+from checks.in_folder import InAFolder
 from checks.preloading import library
 from checks.test_wanting import LINE_51, LINE_52, reply
 from checks.short_histories import HISTORIES, QUESTIONS, outcome_of
@@ -38,12 +37,7 @@ tried(os.pread, "store", 1, 0)
 FILES = HISTORIES["a rejected file fills a gap"]
 
 
-class Library(unittest.TestCase):
-    def setUp(self) -> None:
-        folder = tempfile.TemporaryDirectory()
-        self.addCleanup(folder.cleanup)
-        self.folder = Path(folder.name).resolve()
-
+class Library(InAFolder):
     def ran(self, calls: str, left: str | None = None) -> tuple[int, list[str], str]:
         """The exit status, the calls that failed, and what is told of all."""
         env = {"LD_PRELOAD": str(library(SOURCE, self.folder)), "FAILING_STORE": str(self.folder / "store"), "FAILING_CALLS": calls}

@@ -1,12 +1,12 @@
 """The gate itself is tried: over a small crate, with edits that it must pass and edits that it must report."""
 
-import tempfile
 import unittest
 from pathlib import Path
 
 from checks import kit, trying
 from checks.edits import BadEdit, edit_of, groups, hunks_between, merged, sources_of
 from checks.holes import holes
+from checks.in_folder import InAFolder
 from checks.source import functions
 
 LIBRARY = """//! Small numbers.
@@ -70,11 +70,10 @@ def small_crate(root: Path, edits: dict[str, tuple[str, str]]):
     return kit.crates(root)[0]
 
 
-class OverASmallCrate(unittest.TestCase):
+class OverASmallCrate(InAFolder):
     def tried(self, edits: dict[str, tuple[str, str]]) -> tuple[dict[str, trying.Tried], trying.Outcome]:
-        with tempfile.TemporaryDirectory() as made, tempfile.TemporaryDirectory() as kept:
-            crate = small_crate(Path(made), edits)
-            outcome = trying.try_crate(crate, Path(crate.folder), Path(kept), lambda line: None)
+        crate = small_crate(self.new_folder(), edits)
+        outcome = trying.try_crate(crate, Path(crate.folder), self.new_folder(), lambda line: None)
         return {it.name: it for it in outcome.tried}, outcome
 
     def test_edits_that_turn_a_meaning_are_refused_where_they_stand(self):

@@ -3,10 +3,9 @@
 import os
 import subprocess
 import sys
-import tempfile
 import unittest
-from pathlib import Path
 
+from checks.in_folder import InAFolder
 from checks.preloading import library
 from checks.wanting import ASKED, NONE, REQUESTS, SOURCE, Plain, Ran, fault_of, first_fault
 
@@ -107,21 +106,20 @@ class Runs(unittest.TestCase):
         self.assertEqual(REQUESTS[: len(ASKED)], REQUESTS[len(ASKED) : 2 * len(ASKED)])
 
 
-class Library(unittest.TestCase):
+class Library(InAFolder):
     def test_one_request_is_refused_and_all_are_counted(self):
-        with tempfile.TemporaryDirectory() as made:
-            preloaded, file = library(SOURCE, Path(made)), Path(made) / "wanted"
+        preloaded, file = library(SOURCE, self.folder), self.folder / "wanted"
 
-            def refused(number: int) -> str:
-                env = os.environ | {"LD_PRELOAD": str(preloaded), "WANTING": str(number), "WANTED": str(file)}
-                # (Python itself may end where it finds no memory)
-                return subprocess.run([sys.executable, "-S", "-c", ASKING], env=env, capture_output=True, text=True).stdout.strip()
+        def refused(number: int) -> str:
+            env = os.environ | {"LD_PRELOAD": str(preloaded), "WANTING": str(number), "WANTED": str(file)}
+            # (Python itself may end where it finds no memory)
+            return subprocess.run([sys.executable, "-S", "-c", ASKING], env=env, capture_output=True, text=True).stdout.strip()
 
-            self.assertEqual(refused(1 << 60), "")
-            count = int(file.read_text())
-            last = {refused(number) for number in range(count - 250, count)}
-            self.assertTrue({str(n) for n in range(10)} <= last, last)
-            self.assertTrue(all(len(it.split()) <= 1 for it in last), last)
+        self.assertEqual(refused(1 << 60), "")
+        count = int(file.read_text())
+        last = {refused(number) for number in range(count - 250, count)}
+        self.assertTrue({str(n) for n in range(10)} <= last, last)
+        self.assertTrue(all(len(it.split()) <= 1 for it in last), last)
 
 
 if __name__ == "__main__":

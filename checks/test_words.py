@@ -1,9 +1,8 @@
 """Tests of `words`, over small programs in a temporary folder."""
 
-import tempfile
 import unittest
-from pathlib import Path
 
+from checks.in_folder import InAFolder
 from checks.words import AS_WRITTEN, TOLD, Told, fault_of, run_all, usage
 
 # Knows help, and nothing else.
@@ -16,18 +15,7 @@ USAGE = usage("sing 1001", "error: unexpected argument 'sing'")
 HELP = Told("help", "A hub\n", 0, shows="\nExample: play\n", most=2)
 
 
-class Telling(unittest.TestCase):
-    def setUp(self) -> None:
-        folder = tempfile.TemporaryDirectory()
-        self.addCleanup(folder.cleanup)
-        self.root = Path(folder.name)
-
-    def program(self, text: str) -> Path:
-        path = self.root / "program"
-        path.write_text(text)
-        path.chmod(0o755)
-        return path
-
+class Telling(InAFolder):
     def fault(self, text: str, told: Told, deadline: float = 60) -> str | None:
         return fault_of(self.program(text), told, deadline)
 
