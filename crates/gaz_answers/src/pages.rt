@@ -3,15 +3,15 @@ ghost use Rattle.std.specs.Prelude.{◌≡◌, IfOk, Some, option_map};
 ghost use Rattle.std.specs.String.{string_bytes};
 ghost use Rattle.gaz_answers.specs.Paging.{IsStart, SayItems, item_said};
 
-use gaz_cells::Bodies;
+use gaz_cells::{Bodies, id_of};
 use gaz_records::{Key, Kind, SharedItem};
-use gaz_row_items::decoding::{RowFault, body_lines, key_in, kind_in, name_of, next_item_in};
+use gaz_row_items::decoding::{RowFault, body_lines, key_in, kind_in, next_item_in};
 use sqlite::Row;
-use std::alloc::Global;
+use std::alloc::{AllocError, Global};
 
 // The text behind which the ids of a kind stand that name the keys after this one; none where no
 // key of the kind comes after it.
-fn start_after(alloc: Global, kind: Kind, key: &Key) -> Result<Option<String>, RowFault>
+fn start_after(alloc: Global, kind: Kind, key: &Key) -> Result<Option<String>, AllocError>
     ensures { IfOk result (λ start. IsStart kind (Some key.now) (option_map string_bytes start)) }
 {
     let own = kind_in(key).number();
@@ -21,15 +21,13 @@ fn start_after(alloc: Global, kind: Kind, key: &Key) -> Result<Option<String>, R
     if own < kind.number() {
         return Ok(Some(String::new(alloc)));
     }
-    let name = name_of(alloc, key)?;
+    let name = id_of(alloc, key)?;
     Ok(Some(name))
 }
 
 /// The text behind which the ids of a kind stand after a key, or from the start; none where no key
 /// of the kind comes after it.
-///
-/// `Memory` where there is none for the text; `Wrong` comes of no key, as each name is a text.
-pub fn start_of(alloc: Global, kind: Kind, after: Option<Key>) -> Result<Option<String>, RowFault>
+pub fn start_of(alloc: Global, kind: Kind, after: Option<Key>) -> Result<Option<String>, AllocError>
     ensures { IfOk result (λ start. IsStart kind after (option_map string_bytes start)) }
 {
     match after {

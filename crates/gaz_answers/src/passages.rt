@@ -6,13 +6,14 @@ ghost use Rattle.gaz_cells.specs.Ids.{key_named};
 ghost use Rattle.gaz_row_items.specs.Versions.{text_in};
 ghost use Rattle.gaz_answers.specs.Passages.{IsStartOf, SayPassages};
 
+use gaz_cells::id_of;
 use gaz_ids::{LAST_VOLUME, Uprn};
 use gaz_loaded::Passage;
 use gaz_records::{Key, Kind};
-use gaz_row_items::decoding::{RowFault, key_in, name_of};
+use gaz_row_items::decoding::{RowFault, key_in};
 use gaz_row_items::passages::passed_in;
 use sqlite::Row;
-use std::alloc::Global;
+use std::alloc::{AllocError, Global};
 
 // Which number a row names.
 fn uprn_in(row: &Row) -> Result<Uprn, RowFault>
@@ -50,14 +51,12 @@ pub fn passages_in(alloc: Global, rows: &[Row]) -> Result<Vec<Passage>, RowFault
 
 /// The id and the volume behind which the rows stand that come behind a passage, or all where none
 /// is given: an id without a byte and 0. The volume is at most `LAST_VOLUME`.
-///
-/// `Memory` where there is none for the id; `Wrong` comes of no number, as each name is a text.
-pub fn start_of(alloc: Global, after: Option<Passage>) -> Result<(String, u32), RowFault>
+pub fn start_of(alloc: Global, after: Option<Passage>) -> Result<(String, u32), AllocError>
     ensures { IfOk result (λ start. IsStartOf after (string_bytes start.0, start.1)) }
 {
     match after {
         Some(passage) => {
-            let name = name_of(alloc, &Key::Blpu(passage.uprn))?;
+            let name = id_of(alloc, &Key::Blpu(passage.uprn))?;
             Ok((name, passage.born.min(LAST_VOLUME) as u32))
         }
         None => Ok((String::new(alloc), 0)),

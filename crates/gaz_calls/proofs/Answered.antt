@@ -1,14 +1,21 @@
 -- What else is made of the answers of calls that ask.
-use Rattle.std.proofs.Common.{◌≡◌, Result, Ok, Err, IfOk, subst}
+use Rattle.std.proofs.Common.{◌≡◌, Result, Ok, Err, IfOk, ap, subst, sym}
+use Rattle.std.specs.Prelude.{IsErrAnd}
 use Rattle.sqlite.specs.Effect.{Database}
+use Rattle.sqlite.specs.Held.{state}
 use Rattle.sqlite_trees.specs.declared.store.Store.{Ghosts}
 use Rattle.gaz_keeper.specs.declared.fault.ShelfFault.{ShelfFault}
 use Rattle.gaz_keeper.specs.declared.fault.ShelfFault.TheVariants.{Memory}
-use Rattle.gaz_calls.specs.Asking.{AsksTables, Fails, IsAnyway, Tallies}
+use Rattle.gaz_calls.specs.Asking.{Asks, AsksTables, Fails, IsAnyway, Tallies, Tells}
 use Rattle.gaz_kept.specs.Kept.{IsKept}
 use Rattle.gaz_calls.specs.declared.tables.Tables.{Tables}
 use Rattle.gaz_calls.proofs.Composing.{answered, asked_nothing, asked_then, failed}
-use Rattle.gaz_calls.proofs.Seeing.{asks_as}
+use Rattle.gaz_calls.proofs.Seeing.{asks_as, asks_nothing}
+
+-- a fault that is passed on
+pub passed_on : {T : Type 0} (r : Result T ShelfFault) (e : ShelfFault) → IsErrAnd r (λ f. f ≡ e) → r ≡ Err e
+passed_on (Ok x) e h = absurd h
+passed_on (Err f) e h = ap Err h
 
 module _ {S : Type 0} {store : Ghosts S} where
   -- a fault before anything was asked
@@ -70,3 +77,27 @@ module _ {S : Type 0} {store : Ghosts S} where
       by_result : (db : Database) → IsKept db → P db a → (r : Result T ShelfFault) → IfOk r (Q db) → IfOk r (R db)
       by_result db kept was (Ok x) now = goes db kept was x now
       by_result db kept was (Err e) now = tt
+
+  -- what is told of something is so where it was told
+  pub told_so : {E T : Type 0} (old new : Tables S store) (said : Result T E) (r : Result T ShelfFault) (Q : T → Type 0) → Tells old new said r → IfOk said Q → IfOk r Q
+  told_so {E} {T} old new said r Q tells right = by_result r tells.same
+    where
+      by_result : (r : Result T ShelfFault) → IfOk r (λ x. said ≡ Ok x) → IfOk r Q
+      by_result (Ok x) is = subst (λ (s : Result T E). IfOk s Q) is right
+      by_result (Err e) is = tt
+
+  -- what is told of something asks nothing
+  pub told_asks : {E T : Type 0} (old new : Tables S store) (said : Result T E) (r : Result T ShelfFault) (Q : T → Type 0)
+      → IfOk said Q → Tells old new said r → AsksTables old new r (λ db. Q)
+  told_asks old new said r Q right tells = record {
+    asks = subst (λ h. Asks (state store old.conn) (state store h) r (λ db. Q)) (sym tells.conn) (asks_nothing (state store old.conn) r (λ db. Q) (λ h kept. told_so old new said r Q tells right));
+    tallies = tells.tallies;
+    at_hand = tells.at_hand;
+  }
+
+  -- what is read off an answer
+  pub asked_read : {A E T : Type 0} (old mid new : Tables S store) (one : Result A ShelfFault) (a : A) (said : Result T E) (r : Result T ShelfFault)
+      (P : Database → A → Type 0) (Q : T → Type 0) (R : Database → T → Type 0)
+      → AsksTables old mid one P → one ≡ Ok a → IfOk said Q → Tells mid new said r → ((db : Database) → IsKept db → P db a → (x : T) → Q x → R db x) → AsksTables old new r R
+  asked_read old mid new one a said r P Q R asks is right tells goes =
+      asked_more old mid new one r a P (λ db. Q) R asks (told_asks mid new said r Q right tells) is goes

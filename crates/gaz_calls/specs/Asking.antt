@@ -1,7 +1,6 @@
 -- What a call tells that asks the tables and writes nothing.
 use Rattle.std.specs.Prelude.{◌≡◌, ◌≤◌, ◌<◌, ⊤, false, ℕ}
 use Rattle.std.specs.Prelude.{Result, Ok, IfOk, IfErr, IsTrue, OnOk, OnErr}
-use Rattle.sqlite.specs.declared.error.Error.{Error}
 use Rattle.sqlite.specs.Effect.{Database}
 use Rattle.sqlite.specs.Held.{state}
 use Rattle.sqlite.specs.State.{HasCleanDisk, State, Survives}
@@ -69,9 +68,9 @@ pub record Fails {S : Type 0} {store : Ghosts S} (old new : Tables S store) (fau
   pub kept : old.failures ≤ new.failures
   pub counted : fault ≡ Store → old.failures < new.failures
 
--- what the connection answered, or the fault that its error is
-pub record Tells {S : Type 0} {store : Ghosts S} {T : Type 0} (old new : Tables S store)
-    (answer : Result T Error) (result : Result T ShelfFault) : Type 0 where
+-- what was answered, by the connection or by whoever read its rows, or the fault that its error is
+pub record Tells {S : Type 0} {store : Ghosts S} {T E : Type 0} (old new : Tables S store)
+    (answer : Result T E) (result : Result T ShelfFault) : Type 0 where
   pub conn : new.conn ≡ old.conn
   pub at_hand : new.at_hand ≡ old.at_hand
   pub same : IfOk result (λ x. answer ≡ Ok x)

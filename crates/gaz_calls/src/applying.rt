@@ -17,30 +17,21 @@ impl<S: Alter> Tables<S> {
         ensures { Writes self.old self.new result (IsNextIn code)
             (WhereSo self.old.at_hand (AppliesNext code changes.now)) }
     {
-        let reached = match self.reached(code) {
-            Ok(reached) => reached,
-            Err(fault) => return Err(fault),
-        };
+        let reached = self.reached(code)?;
         let Some(next) = Volume::of(reached.saturating_add(1)) else {
             return Err(self.fail());
         };
         let _number = next.number();
-        match self.write(code, next, changes) {
-            Ok(()) => {
-                self.was_judged(code);
-                Ok(())
-            }
-            Err(fault) => Err(fault),
-        }
+        self.write(code, next, changes)?;
+        self.was_judged(code);
+        Ok(())
     }
 
     // The rows of a volume, and its mark.
     fn write(&mut self, code: Code, volume: Volume, changes: &Overlay) -> Result<(), ShelfFault>
         ensures { AltersTables self.old self.new result (KeepsVolume code volume changes.now) }
     {
-        if let Err(fault) = self.ready() {
-            return Err(fault);
-        }
+        self.ready()?;
         let done = keeping::keep(self.alloc, &mut self.conn, code, volume, changes);
         self.told(done)
     }

@@ -58,7 +58,7 @@ impl<S: Alter> Tables<S> {
     }
 
     /// Makes sure that the connection is open, for one statement: `told` says of its answer whether
-    /// that is still known. It is asked by `if let`: `?` takes two seconds more of each proof.
+    /// that is still known.
     pub(crate) fn ready(&mut self) -> Result<(), ShelfFault>
         ensures asks { AsksTables self.old self.new result IsAnyway }
         ensures ready { OnOk result (AreReady self.new) }
@@ -85,13 +85,15 @@ impl<S: Alter> Tables<S> {
         }
     }
 
-    /// Want of memory, or a failure, which is counted: the row is one that no store writes.
-    pub(crate) fn row_fault(&mut self, fault: RowFault) -> ShelfFault
-        ensures { Fails self.old self.new result }
+    /// What was read off rows. Where one can't be read it is none that a store writes, which counts
+    /// as a failure.
+    pub(crate) fn read<T>(&mut self, read: Result<T, RowFault>) -> Result<T, ShelfFault>
+        ensures { Tells self.old self.new read result }
     {
-        match fault {
-            RowFault::Memory => ShelfFault::Memory,
-            RowFault::Wrong => self.fail(),
+        match read {
+            Ok(found) => Ok(found),
+            Err(RowFault::Memory) => Err(ShelfFault::Memory),
+            Err(RowFault::Wrong) => Err(self.fail()),
         }
     }
 }

@@ -22,9 +22,7 @@ impl<S: Alter> Tables<S> {
         ensures { AsksTables self.old self.new result
             (λ db rows. FindsApprovedOf code (pos uprn) (rows_of db version2) rows.items) }
     {
-        if let Err(fault) = self.ready() {
-            return Err(fault);
-        }
+        self.ready()?;
         let cust = code.number() as u32;
         let blpu = uprn.number() as i64;
         let found = versions::approved_of(&mut self.conn, cust, &blpu);
@@ -37,10 +35,7 @@ impl<S: Alter> Tables<S> {
             (λ db keys. keys.items ≡ approved_of (last_in db code) uprn) }
     {
         let rows = self.approved_rows(code, uprn)?;
-        match keys_said(self.alloc, &rows) {
-            Ok(keys) => Ok(keys),
-            Err(fault) => Err(self.row_fault(fault)),
-        }
+        self.read(keys_said(self.alloc, &rows))
     }
 
     // The BLPU's approved LPI of the least key in a custodian's last view.
@@ -49,10 +44,7 @@ impl<S: Alter> Tables<S> {
             (λ db i. i ≡ address_of (last_in db code) uprn) }
     {
         let rows = self.approved_rows(code, uprn)?;
-        match least_said(self.alloc, &rows) {
-            Ok(address) => Ok(address),
-            Err(fault) => Err(self.row_fault(fault)),
-        }
+        self.read(least_said(self.alloc, &rows))
     }
 
     /// A BLPU in a custodian's last view with its approved LPI: that of the least key, where there
@@ -65,9 +57,7 @@ impl<S: Alter> Tables<S> {
         let Some(blpu) = found else {
             return Ok(None);
         };
-        match self.address_of(code, uprn) {
-            Ok(address) => Ok(Some(Property { blpu, address })),
-            Err(fault) => Err(fault),
-        }
+        let address = self.address_of(code, uprn)?;
+        Ok(Some(Property { blpu, address }))
     }
 }

@@ -39,17 +39,13 @@ impl<S: Alter> Tables<S> {
         if let Some(held) = at_hand.held {
             return Ok(held);
         }
-        match self.count_above(code, reached) {
-            Ok(held) => {
-                let counted = AtHand {
-                    reached,
-                    held: Some(held),
-                };
-                self.note(code, counted);
-                Ok(held)
-            }
-            Err(fault) => Err(fault),
-        }
+        let held = self.count_above(code, reached)?;
+        let counted = AtHand {
+            reached,
+            held: Some(held),
+        };
+        self.note(code, counted);
+        Ok(held)
     }
 
     // What is at hand of a custodian; where that is nothing, how many are judged is counted, and is
@@ -60,17 +56,13 @@ impl<S: Alter> Tables<S> {
         if let Some(at_hand) = self.at_hand.get(&code).copied() {
             return Ok(at_hand);
         }
-        match self.count_judged(code) {
-            Ok(reached) => {
-                let counted = AtHand {
-                    reached,
-                    held: None,
-                };
-                self.note(code, counted);
-                Ok(counted)
-            }
-            Err(fault) => Err(fault),
-        }
+        let reached = self.count_judged(code)?;
+        let counted = AtHand {
+            reached,
+            held: None,
+        };
+        self.note(code, counted);
+        Ok(counted)
     }
 
     // How many volumes of a custodian are judged: as these are the first ones, half of what is left
@@ -84,10 +76,11 @@ impl<S: Alter> Tables<S> {
         let mut beyond = bounds.1;
         while reached + 1 < beyond {
             let middle = reached + (beyond - reached) / 2;
-            match self.is_judged(code, middle) {
-                Ok(true) => reached = middle,
-                Ok(false) => beyond = middle,
-                Err(fault) => return Err(fault),
+            let judged = self.is_judged(code, middle)?;
+            if judged {
+                reached = middle;
+            } else {
+                beyond = middle;
             }
         }
         Ok(reached)
@@ -105,14 +98,12 @@ impl<S: Alter> Tables<S> {
         let mut reached: u64 = 0;
         let mut next: u64 = 1;
         while next <= LAST_VOLUME {
-            match self.is_judged(code, next) {
-                Ok(true) => {
-                    reached = next;
-                    next *= 2;
-                }
-                Ok(false) => return Ok((reached, next)),
-                Err(fault) => return Err(fault),
+            let judged = self.is_judged(code, next)?;
+            if !judged {
+                return Ok((reached, next));
             }
+            reached = next;
+            next *= 2;
         }
         Ok((reached, LAST_VOLUME + 1))
     }
@@ -156,9 +147,7 @@ impl<S: Alter> Tables<S> {
         ensures { AsksTables self.old self.new result
             (λ db rows. FindsAbove code volume most (rows_of db received) rows.items) }
     {
-        if let Err(fault) = self.ready() {
-            return Err(fault);
-        }
+        self.ready()?;
         let found = receiveds::above(&mut self.conn, code.number() as u32, volume as u32, most);
         self.told(found)
     }

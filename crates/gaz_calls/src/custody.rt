@@ -13,10 +13,10 @@ ghost use Rattle.gaz_calls.specs.Passing.{TellsPassed};
 
 use crate::tables::Tables;
 use gaz_answers::volumes::capped;
+use gaz_cells::id_of;
 use gaz_ids::{Code, Uprn};
 use gaz_keeper::ShelfFault;
 use gaz_records::Key;
-use gaz_row_items::decoding::name_of;
 use gaz_row_items::passages::{Passed, custody_of, passage_said};
 use gaz_tables::custody;
 use gaz_views::Custody;
@@ -28,9 +28,7 @@ impl<S: Alter> Tables<S> {
         ensures { AsksTables self.old self.new result
             (λ db rows. FindsCustody code id.now (rows_of db version2) rows.items) }
     {
-        if let Err(fault) = self.ready() {
-            return Err(fault);
-        }
+        self.ready()?;
         let cust = code.number() as u32;
         let found = custody::newest(&mut self.conn, cust, id);
         self.told(found)
@@ -46,9 +44,7 @@ impl<S: Alter> Tables<S> {
         ensures { AsksTables self.old self.new result
             (λ db rows. FindsCustodyUntil code id.now volume (rows_of db version2) rows.items) }
     {
-        if let Err(fault) = self.ready() {
-            return Err(fault);
-        }
+        self.ready()?;
         let cust = code.number() as u32;
         let found = custody::newest_until(&mut self.conn, cust, id, volume);
         self.told(found)
@@ -59,15 +55,9 @@ impl<S: Alter> Tables<S> {
         ensures { AsksTables self.old self.new result
             (λ db passed. TellsPassed db code uprn passed) }
     {
-        let name = match name_of(self.alloc, &Key::Blpu(uprn)) {
-            Ok(name) => name,
-            Err(fault) => return Err(self.row_fault(fault)),
-        };
+        let name = id_of(self.alloc, &Key::Blpu(uprn))?;
         let rows = self.custody_rows(code, &name)?;
-        match passage_said(&rows) {
-            Ok(passed) => Ok(passed),
-            Err(fault) => Err(self.row_fault(fault)),
-        }
+        self.read(passage_said(&rows))
     }
 
     // The newest that was born in a volume or before.
@@ -81,15 +71,9 @@ impl<S: Alter> Tables<S> {
             (λ db passed. volume ≤ reached_in (rows_of db received) code
             → custody_of passed ≡ custody_at (view_in (rows_of db version2) code volume) uprn) }
     {
-        let name = match name_of(self.alloc, &Key::Blpu(uprn)) {
-            Ok(name) => name,
-            Err(fault) => return Err(self.row_fault(fault)),
-        };
+        let name = id_of(self.alloc, &Key::Blpu(uprn))?;
         let rows = self.custody_rows_until(code, volume, &name)?;
-        match passage_said(&rows) {
-            Ok(passed) => Ok(passed),
-            Err(fault) => Err(self.row_fault(fault)),
-        }
+        self.read(passage_said(&rows))
     }
 
     /// What last became of a number in a custodian's last view.

@@ -27,9 +27,7 @@ impl<S: Alter> Tables<S> {
         ensures { AsksTables self.old self.new result
             (λ db rows. FindsVerdict code volume (rows_of db received) rows.items) }
     {
-        if let Err(fault) = self.ready() {
-            return Err(fault);
-        }
+        self.ready()?;
         let found = receiveds::verdict(
             &mut self.conn,
             code.number() as u32,
@@ -44,10 +42,7 @@ impl<S: Alter> Tables<S> {
             (λ db v. v ≡ verdict_on (board_of db) code volume) }
     {
         let rows = self.verdict_rows(code, volume)?;
-        match verdict_said(&rows) {
-            Ok(verdict) => Ok(verdict),
-            Err(fault) => Err(self.row_fault(fault)),
-        }
+        self.read(verdict_said(&rows))
     }
 
     /// The bytes of a volume with its state, place and rule, where it was received.
@@ -55,9 +50,7 @@ impl<S: Alter> Tables<S> {
         ensures { AsksTables self.old self.new result
             (λ db rows. FindsFile code volume (rows_of db received) rows.items) }
     {
-        if let Err(fault) = self.ready() {
-            return Err(fault);
-        }
+        self.ready()?;
         let found = receiveds::file(&mut self.conn, code.number() as u32, volume.number() as u32);
         self.told(found)
     }

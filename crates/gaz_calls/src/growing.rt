@@ -76,9 +76,7 @@ impl<S: Alter> Tables<S> {
     fn rewrite(&mut self, register: &str) -> Result<(), ShelfFault>
         ensures { AltersTables self.old self.new result (Registers register.now) }
     {
-        if let Err(fault) = self.ready() {
-            return Err(fault);
-        }
+        self.ready()?;
         let done = rewriting::rewrite(&mut self.conn, register);
         self.told(done)
     }

@@ -16,11 +16,12 @@ ghost use Rattle.gaz_calls.specs.Passing.{any_passed, was_passed};
 
 use crate::tables::Tables;
 use gaz_answers::volumes::capped;
+use gaz_cells::id_of;
 use gaz_ids::Code;
 use gaz_keeper::ShelfFault;
 use gaz_overlay::Stood;
 use gaz_records::{Key, Kind, SharedItem};
-use gaz_row_items::decoding::{kind_in, name_of};
+use gaz_row_items::decoding::kind_in;
 use gaz_row_items::newest::{Life, current_in, item_after, newest_said, stood_by, stood_said};
 use gaz_row_items::passages::Passed;
 use gaz_tables::versions;
@@ -32,9 +33,7 @@ impl<S: Alter> Tables<S> {
         ensures { AsksTables self.old self.new result
             (λ db rows. FindsNewest code (number_of kind) id.now (rows_of db version2) rows.items) }
     {
-        if let Err(fault) = self.ready() {
-            return Err(fault);
-        }
+        self.ready()?;
         let cust = code.number() as u32;
         let kind = kind.number() as u32;
         let found = versions::newest(&mut self.conn, cust, kind, id);
@@ -52,9 +51,7 @@ impl<S: Alter> Tables<S> {
         ensures { AsksTables self.old self.new result (λ db rows. FindsNewestUntil
             code (number_of kind) id.now volume (rows_of db version2) rows.items) }
     {
-        if let Err(fault) = self.ready() {
-            return Err(fault);
-        }
+        self.ready()?;
         let cust = code.number() as u32;
         let kind = kind.number() as u32;
         let found = versions::newest_until(&mut self.conn, cust, kind, id, volume);
@@ -66,15 +63,9 @@ impl<S: Alter> Tables<S> {
         ensures { AsksTables self.old self.new result
             (λ db life. IsNewest (histories_in (rows_of db version2) code) key.now life) }
     {
-        let name = match name_of(self.alloc, key) {
-            Ok(name) => name,
-            Err(fault) => return Err(self.row_fault(fault)),
-        };
+        let name = id_of(self.alloc, key)?;
         let rows = self.newest_rows(code, kind_in(key), &name)?;
-        match newest_said(self.alloc, key, &rows) {
-            Ok(life) => Ok(life),
-            Err(fault) => Err(self.row_fault(fault)),
-        }
+        self.read(newest_said(self.alloc, key, &rows))
     }
 
     // The newest row of a key that was born in a volume or before, where it has one.
@@ -87,15 +78,9 @@ impl<S: Alter> Tables<S> {
         ensures { AsksTables self.old self.new result (λ db life. IsNewestUntil
             volume (histories_in (rows_of db version2) code) key.now life) }
     {
-        let name = match name_of(self.alloc, key) {
-            Ok(name) => name,
-            Err(fault) => return Err(self.row_fault(fault)),
-        };
+        let name = id_of(self.alloc, key)?;
         let rows = self.newest_rows_until(code, volume, kind_in(key), &name)?;
-        match newest_said(self.alloc, key, &rows) {
-            Ok(life) => Ok(life),
-            Err(fault) => Err(self.row_fault(fault)),
-        }
+        self.read(newest_said(self.alloc, key, &rows))
     }
 
     /// The item at a key in a custodian's last view.
@@ -133,10 +118,8 @@ impl<S: Alter> Tables<S> {
         if life.is_some() {
             return Ok(true);
         }
-        match self.passed_at(code, key, none) {
-            Ok(passed) => Ok(passed.is_some()),
-            Err(fault) => Err(fault),
-        }
+        let passed = self.passed_at(code, key, none)?;
+        Ok(passed.is_some())
     }
 
     /// Whether a key was used in a custodian's last view or before it.
@@ -168,15 +151,9 @@ impl<S: Alter> Tables<S> {
             TellsStood (histories_in (rows_of db version2) code) (last_in db code)
             key.now stood (map.get (last_in db code).items key.now)) }
     {
-        let name = match name_of(self.alloc, key) {
-            Ok(name) => name,
-            Err(fault) => return Err(self.row_fault(fault)),
-        };
+        let name = id_of(self.alloc, key)?;
         let rows = self.newest_rows(code, kind_in(key), &name)?;
-        match stood_said(&rows) {
-            Ok(stood) => Ok(stood),
-            Err(fault) => Err(self.row_fault(fault)),
-        }
+        self.read(stood_said(&rows))
     }
 
     /// The item at a key after a volume, which is to be reached; after volume 0 there is none.

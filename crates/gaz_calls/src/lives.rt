@@ -21,9 +21,7 @@ impl<S: Alter> Tables<S> {
         ensures { AsksTables self.old self.new result
             (λ db rows. FindsFirst MOST (rows_of db version2) rows.items) }
     {
-        if let Err(fault) = self.ready() {
-            return Err(fault);
-        }
+        self.ready()?;
         let found = rowids::first(&mut self.conn, MOST);
         self.told(found)
     }
@@ -33,9 +31,7 @@ impl<S: Alter> Tables<S> {
         ensures { AsksTables self.old self.new result
             (λ db rows. FindsBehind after MOST (rows_of db version2) rows.items) }
     {
-        if let Err(fault) = self.ready() {
-            return Err(fault);
-        }
+        self.ready()?;
         let found = rowids::behind(&mut self.conn, &after, MOST);
         self.told(found)
     }
@@ -58,10 +54,7 @@ impl<S: Alter> Tables<S> {
         ensures entries { IfOk result AreEntries }
     {
         let rows = self.rows_in_turn(after)?;
-        match page_told(self.alloc, &rows) {
-            Ok(page) => Ok(page),
-            Err(fault) => Err(self.row_fault(fault)),
-        }
+        self.read(page_told(self.alloc, &rows))
     }
 
     /// What the rows of items behind a rowid say, or those from the first, by rising rowids: at
@@ -75,12 +68,10 @@ impl<S: Alter> Tables<S> {
     {
         let mut place = after;
         'pages: for _page in 0..u64::MAX {
-            match self.lives_step(place) {
-                Ok(page) => match page {
-                    LifePage::Lives(lives) => return Ok(lives),
-                    LifePage::Behind(last) => place = Some(last),
-                },
-                Err(fault) => return Err(fault),
+            let page = self.lives_step(place)?;
+            match page {
+                LifePage::Lives(lives) => return Ok(lives),
+                LifePage::Behind(last) => place = Some(last),
             }
         }
         Err(self.fail())

@@ -35,9 +35,7 @@ impl<S: Alter> Tables<S> {
             FindsHolding code (number_of kind) start.now volume most
             (rows_of db version2) rows.items) }
     {
-        if let Err(fault) = self.ready() {
-            return Err(fault);
-        }
+        self.ready()?;
         let cust = code.number() as u32;
         let kind = kind.number() as u32;
         let found = versions::holding(&mut self.conn, cust, kind, start, volume, most);
@@ -82,10 +80,7 @@ impl<S: Alter> Tables<S> {
             IsPageFrom (board_of db) code volume kind (Some start.now) most items.items) }
     {
         let rows = self.holding_all(code, kind, start, volume, most)?;
-        match items_in(self.alloc, kind, &rows) {
-            Ok(items) => Ok(items),
-            Err(fault) => Err(self.row_fault(fault)),
-        }
+        self.read(items_in(self.alloc, kind, &rows))
     }
 
     // The first `most` items of a kind after a volume, behind a text; none where there is no text.
@@ -126,9 +121,7 @@ impl<S: Alter> Tables<S> {
         if !kind.is_entry() {
             return Ok(Vec::new(self.alloc));
         }
-        match start_of(self.alloc, kind, after) {
-            Ok(start) => self.page_from(code, volume as u32, kind, start, most),
-            Err(fault) => Err(self.row_fault(fault)),
-        }
+        let start = start_of(self.alloc, kind, after)?;
+        self.page_from(code, volume as u32, kind, start, most)
     }
 }

@@ -28,9 +28,7 @@ impl<S: Alter> Tables<S> {
         ensures { AsksTables self.old self.new result (λ db rows.
             FindsCustodyBehind code id.now born most (rows_of db version2) rows.items) }
     {
-        if let Err(fault) = self.ready() {
-            return Err(fault);
-        }
+        self.ready()?;
         let cust = code.number() as u32;
         let found = custody::behind(&mut self.conn, cust, id, born, most);
         self.told(found)
@@ -46,15 +44,9 @@ impl<S: Alter> Tables<S> {
         ensures { AsksTables self.old self.new result
             (λ db passages. AreToldBehind after (passages_of db code) passages.items) }
     {
-        let (id, born) = match start_of(self.alloc, after) {
-            Ok(start) => start,
-            Err(fault) => return Err(self.row_fault(fault)),
-        };
-        let rows = self.passage_rows(code, id.as_str(), born, MOST)?;
-        match passages_in(self.alloc, &rows) {
-            Ok(passages) => Ok(passages),
-            Err(fault) => Err(self.row_fault(fault)),
-        }
+        let start = start_of(self.alloc, after)?;
+        let rows = self.passage_rows(code, start.0.as_str(), start.1, MOST)?;
+        self.read(passages_in(self.alloc, &rows))
     }
 
     /// Whether one of a custodian's numbers was passed on.

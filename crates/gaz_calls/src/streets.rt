@@ -32,9 +32,7 @@ impl<S: Alter> Tables<S> {
         ensures { AsksTables self.old self.new result (λ db rows.
             FindsApprovedOn code usrn start.now most (rows_of db version2) rows.items) }
     {
-        if let Err(fault) = self.ready() {
-            return Err(fault);
-        }
+        self.ready()?;
         let cust = code.number() as u32;
         let street = usrn.number() as u32;
         let found = versions::approved_on(&mut self.conn, cust, street, start, most);
@@ -56,9 +54,7 @@ impl<S: Alter> Tables<S> {
         ensures some { 1 ≤ uprn }
     {
         let blpu = uprn.number() as i64;
-        if let Err(fault) = self.ready() {
-            return Err(fault);
-        }
+        self.ready()?;
         let cust = code.number() as u32;
         let kind = kind.number() as u32;
         let found = versions::parts_of(&mut self.conn, cust, kind, &blpu, start, most);
@@ -78,10 +74,7 @@ impl<S: Alter> Tables<S> {
             (option_map (λ c. c.now) passed.entry)) (last_in db code) start.now step) }
     {
         let rows = self.street_rows(code, usrn, start, MOST)?;
-        match street_told(self.alloc, &rows, lang, passed) {
-            Ok(step) => Ok(step),
-            Err(fault) => Err(self.row_fault(fault)),
-        }
+        self.read(street_told(self.alloc, &rows, lang, passed))
     }
 
     /// Whether an approved LPI is on a street, and in this language where one is given, whose key
@@ -98,12 +91,10 @@ impl<S: Alter> Tables<S> {
     {
         let mut start = String::new(self.alloc);
         'pages: for _page in 0..u64::MAX {
-            match self.street_step(code, usrn, lang, passed, start.as_str()) {
-                Ok(step) => match step {
-                    Step::Told(found) => return Ok(found),
-                    Step::Behind(id) => start = id,
-                },
-                Err(fault) => return Err(fault),
+            let step = self.street_step(code, usrn, lang, passed, start.as_str())?;
+            match step {
+                Step::Told(found) => return Ok(found),
+                Step::Behind(id) => start = id,
             }
         }
         Err(self.fail())
@@ -136,10 +127,7 @@ impl<S: Alter> Tables<S> {
             (option_map (λ c. c.now) passed.entry)) (last_in db code) start.now step) }
     {
         let rows = self.part_rows(code, kind, uprn, start, MOST)?;
-        match parts_told(self.alloc, &rows, kind, passed) {
-            Ok(step) => Ok(step),
-            Err(fault) => Err(self.row_fault(fault)),
-        }
+        self.read(parts_told(self.alloc, &rows, kind, passed))
     }
 
     /// Whether an item of a kind, which is to be one of entries, names a BLPU at a key that isn't
@@ -157,12 +145,10 @@ impl<S: Alter> Tables<S> {
     {
         let mut start = String::new(self.alloc);
         'pages: for _page in 0..u64::MAX {
-            match self.part_step(code, kind, uprn, passed, start.as_str()) {
-                Ok(step) => match step {
-                    Step::Told(found) => return Ok(found),
-                    Step::Behind(id) => start = id,
-                },
-                Err(fault) => return Err(fault),
+            let step = self.part_step(code, kind, uprn, passed, start.as_str())?;
+            match step {
+                Step::Told(found) => return Ok(found),
+                Step::Behind(id) => start = id,
             }
         }
         Err(self.fail())

@@ -22,9 +22,6 @@ impl<S: Alter> Tables<S> {
             return Ok(Vec::new(self.alloc));
         }
         let rows = self.rows_above(code, volume, MOST)?;
-        match volumes_in(self.alloc, &rows) {
-            Ok(volumes) => Ok(volumes),
-            Err(fault) => Err(self.row_fault(fault)),
-        }
+        self.read(volumes_in(self.alloc, &rows))
     }
 }

@@ -22,13 +22,9 @@ impl<S: Alter> Tables<S> {
         ensures { Writes self.old self.new result (IsNewIn code volume)
             (Comes code volume bytes.now) }
     {
-        match self.add_file(code.number() as u32, volume.number() as u32, bytes) {
-            Ok(()) => {
-                self.has_come(code);
-                Ok(())
-            }
-            Err(fault) => Err(fault),
-        }
+        self.add_file(code.number() as u32, volume.number() as u32, bytes)?;
+        self.has_come(code);
+        Ok(())
     }
 
     /// Rejects a custodian's next volume at a place by a rule, which is committed when this
@@ -37,32 +33,23 @@ impl<S: Alter> Tables<S> {
         ensures { Writes self.old self.new result (IsNextIn code)
             (WhereSo self.old.at_hand (RejectsNext code place rule)) }
     {
-        let reached = match self.reached(code) {
-            Ok(reached) => reached,
-            Err(fault) => return Err(fault),
-        };
+        let reached = self.reached(code)?;
         let Some(next) = Volume::of(reached.saturating_add(1)) else {
             return Err(self.fail());
         };
         let Ok(place) = i64::try_from(place) else {
             return Err(self.fail());
         };
-        match self.reject(code.number() as u32, next.number() as u32, place, rule) {
-            Ok(()) => {
-                self.was_judged(code);
-                Ok(())
-            }
-            Err(fault) => Err(fault),
-        }
+        self.reject(code.number() as u32, next.number() as u32, place, rule)?;
+        self.was_judged(code);
+        Ok(())
     }
 
     // The row of a volume, which nobody has judged.
     fn add_file(&mut self, cust: u32, volume: u32, bytes: &[u8]) -> Result<(), ShelfFault>
         ensures { AltersTables self.old self.new result (Comes cust volume bytes.now) }
     {
-        if let Err(fault) = self.ready() {
-            return Err(fault);
-        }
+        self.ready()?;
         let done = alone::receive(&mut self.conn, cust, volume, bytes);
         self.told(done)
     }
@@ -72,9 +59,7 @@ impl<S: Alter> Tables<S> {
         ensures { AltersTables self.old self.new result
             (ChangesTable received (Rejects cust volume place rule)) }
     {
-        if let Err(fault) = self.ready() {
-            return Err(fault);
-        }
+        self.ready()?;
         let done = alone::reject(&mut self.conn, cust, volume, &place, rule as u32);
         self.told(done)
     }

@@ -1,6 +1,7 @@
 -- The columns in which tables keep an item.
-use Rattle.std.specs.Prelude.{ℕ, List, Option, Some, None}
+use Rattle.std.specs.Prelude.{◌≤◌, ℕ, List, Option, Some, None}
 use Rattle.gaz_ids.specs.Codes.{lang_number}
+use Rattle.gaz_ids.specs.Limits.{last_uprn, last_usrn}
 use Rattle.gaz_ids.specs.declared.status.Status.{Status}
 use Rattle.gaz_ids.specs.declared.status.Status.TheVariants.{Approved, Alternative}
 use Rattle.gaz_ids.specs.declared.status.Status.TheVariants.{Provisional, Historical}
@@ -17,6 +18,11 @@ pub record LinksValue : Type 0 where
   pub street : ℕ
   pub lang : ℕ
   pub live : ℕ
+
+-- none of them is greater than a UPRN or a USRN can be
+pub record AreInRange (links : LinksValue) : Type 0 where
+  pub blpu : links.blpu ≤ last_uprn
+  pub street : links.street ≤ last_usrn
 
 -- the cells of an item
 pub record CellsValue : Type 0 where

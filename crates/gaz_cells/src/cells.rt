@@ -1,10 +1,13 @@
 //! The columns of an item.
-ghost use Rattle.std.specs.Prelude.{◌≡◌, IfOk, Ok, true};
+ghost use Rattle.std.specs.Prelude.{◌≡◌, ◌≤◌, IfOk, Ok, true};
+ghost use Rattle.gaz_ids.specs.Limits.{last_uprn};
 ghost use Rattle.gaz_records.specs.Items.{is_entry};
-ghost use Rattle.gaz_cells.specs.Columns.{cells_of, links_of, live_number, parent_number};
+ghost use Rattle.gaz_cells.specs.Columns.{AreInRange, cells_of, links_of, live_number};
+ghost use Rattle.gaz_cells.specs.Columns.{parent_number};
 ghost use Rattle.gaz_cells.specs.Reading.{read_cells};
 
 use crate::id::id_of;
+use crate::text::as_text;
 use gaz_ids::{Status, Uprn};
 use gaz_records::{Item, item_text, key_of};
 use std::alloc::{AllocError, Global};
@@ -42,30 +45,32 @@ impl Model for Links {
 #[derive(Drop)]
 pub struct Cells {
     /// The record identifier of the kind, as `Kind::number` gives it; `CUSTODY` in `CustodyCells`.
-    pub kind: u64,
+    pub kind: u32,
     /// The text that names the key.
-    pub id: Vec<u8>,
+    pub id: String,
     pub links: Links,
     /// The item's row as `csv` writes it, without a line end; empty in `CustodyCells`.
-    pub body: Vec<u8>,
+    pub body: String,
 }
 
 impl Model for Cells {
+    ghost use Rattle.std.specs.String.{string_bytes};
     ghost use Rattle.gaz_cells.specs.Columns.{CellsValue};
 
     ghost Value = { CellsValue };
 
     ghost view = { λ x. record {
       kind = x.kind;
-      id = x.id.items;
+      id = string_bytes x.id;
       links = x.links;
-      body = x.body.items;
+      body = string_bytes x.body;
     } };
 }
 
 // The number of the property of which another is a part.
 fn parent_number(parent: Option<Uprn>) -> u64
-    ensures { result ≡ parent_number parent }
+    ensures value { result ≡ parent_number parent }
+    ensures range { result ≤ last_uprn }
 {
     match parent {
         Some(uprn) => uprn.number(),
@@ -85,7 +90,8 @@ fn live_number(status: Status) -> u8
 
 /// The numbers by which an item is looked for.
 pub(crate) fn links_of(item: &Item) -> Links
-    ensures { result ≡ links_of item.now }
+    ensures links { result ≡ links_of item.now }
+    ensures range { AreInRange result }
 {
     match item {
         Item::Street(x) => Links {
@@ -132,11 +138,12 @@ impl Cells {
     /// The columns of an item. Read as a row those of an entry say it again.
     pub fn of(alloc: Global, item: &Item) -> Result<Cells, AllocError>
         ensures cells { IfOk result (λ cells. cells ≡ cells_of item.now) }
+        ensures range { IfOk result (λ cells. AreInRange cells.links) }
         ensures reads_back { is_entry item.now ≡ true
             → read_cells (cells_of item.now) ≡ Ok item.now }
     {
         item.known();
-        let kind = item.kind().number();
+        let kind = item.kind().number() as u32;
         let body = item_text(alloc, item)?;
         let id = id_of(alloc, &key_of(item))?;
         let links = links_of(item);
@@ -144,7 +151,7 @@ impl Cells {
             kind,
             id,
             links,
-            body,
+            body: as_text(body),
         })
     }
 }

@@ -2,6 +2,7 @@
 ghost use Rattle.std.specs.Prelude.{◌≡◌, IfOk};
 ghost use Rattle.gaz_ids.specs.Limits.{last_code, last_hop};
 ghost use Rattle.gaz_ids.specs.Numbers.{of_id};
+ghost use Rattle.gaz_cells.specs.Columns.{AreInRange};
 ghost use Rattle.gaz_cells.specs.Custody.{custody_by, custody_cells, custody_told};
 
 use crate::cells::{Cells, Links};
@@ -22,7 +23,7 @@ pub struct CustodyCells {
     /// empty.
     pub cells: Cells,
     /// How often the number had passed on.
-    pub hop: u64,
+    pub hop: u32,
 }
 
 impl Model for CustodyCells {
@@ -59,7 +60,8 @@ pub fn custody_told(live: u64, other: u64, hop: u64) -> Option<Custody>
 
 // The numbers by which it is looked for, and whether the number was taken.
 fn links_of(uprn: Uprn, custody: &Custody) -> Links
-    ensures { result ≡ (custody_cells uprn custody.now).cells.links }
+    ensures links { result ≡ (custody_cells uprn custody.now).cells.links }
+    ensures range { AreInRange result }
 {
     let (street, live) = match custody {
         Custody::Released { to, .. } => (to.number(), 0),
@@ -76,17 +78,18 @@ fn links_of(uprn: Uprn, custody: &Custody) -> Links
 impl CustodyCells {
     /// The columns of what became of a number.
     pub fn of(alloc: Global, uprn: Uprn, custody: &Custody) -> Result<CustodyCells, AllocError>
-        ensures { IfOk result (λ cells. cells ≡ custody_cells uprn custody.now) }
+        ensures cells { IfOk result (λ cells. cells ≡ custody_cells uprn custody.now) }
+        ensures range { IfOk result (λ cells. AreInRange cells.cells.links) }
     {
         let id = id_of(alloc, &Key::Blpu(uprn))?;
         Ok(CustodyCells {
             cells: Cells {
-                kind: CUSTODY,
+                kind: CUSTODY as u32,
                 id,
                 links: links_of(uprn, custody),
-                body: Vec::new(alloc),
+                body: String::new(alloc),
             },
-            hop: custody.hop(),
+            hop: custody.hop() as u32,
         })
     }
 }

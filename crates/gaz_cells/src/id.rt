@@ -1,8 +1,10 @@
 //! The texts by which tables name the keys of a kind.
 ghost use Rattle.std.specs.Prelude.{◌≡◌, ◌++◌, IfOk, OnOk, true};
+ghost use Rattle.std.specs.String.{string_bytes};
 ghost use Rattle.gaz_cells.specs.Digits.{digits_in};
 ghost use Rattle.gaz_cells.specs.Ids.{id_of, is_key, key_named, usrn_in, uprn_in};
 
+use crate::text::as_text;
 use gaz_ids::{Lang, Uprn, Usrn};
 use gaz_records::{Key, Kind, Label};
 use std::alloc::{AllocError, Global};
@@ -28,11 +30,8 @@ fn add_digits(out: &mut Vec<u8>, width: usize, number: u64) -> Result<(), AllocE
     Ok(())
 }
 
-/// The text by which tables name the key among those of its kind.
-///
-/// A USRN in 8 digits, that and its language, a UPRN in 12 digits, or the key itself. Texts of a
-/// kind are in the order of keys.
-pub fn id_of(alloc: Global, key: &Key) -> Result<Vec<u8>, AllocError>
+// The bytes of the text that names the key.
+fn id_bytes(alloc: Global, key: &Key) -> Result<Vec<u8>, AllocError>
     ensures id { IfOk result (λ id. id.items ≡ id_of key.now) }
     ensures form { is_key key.now ≡ true }
 {
@@ -47,6 +46,18 @@ pub fn id_of(alloc: Global, key: &Key) -> Result<Vec<u8>, AllocError>
         Key::Xref(label) | Key::Lpi(label) => out.extend_from_slice(label.as_bytes())?,
     }
     Ok(out)
+}
+
+/// The text by which tables name the key among those of its kind.
+///
+/// A USRN in 8 digits, that and its language, a UPRN in 12 digits, or the key itself. Texts of a
+/// kind are in the order of keys.
+pub fn id_of(alloc: Global, key: &Key) -> Result<String, AllocError>
+    ensures id { IfOk result (λ id. string_bytes id ≡ id_of key.now) }
+    ensures form { is_key key.now ≡ true }
+{
+    let id = id_bytes(alloc, key)?;
+    Ok(as_text(id))
 }
 
 // The USRN that just 8 digits write.

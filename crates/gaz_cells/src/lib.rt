@@ -9,6 +9,7 @@ mod fault;
 mod id;
 pub mod laws;
 mod reading;
+mod text;
 
 pub use bodies::Bodies;
 pub use cells::{Cells, Links};

@@ -99,7 +99,7 @@ impl<'a> Row<'a> {
         ensures { (result ≡ disagreement self.now item.now) ⊎ (result ≡ Some CellFault.Memory) }
     {
         match id_of(alloc, &key_of(item)) {
-            Ok(id) => self.disagreement(item, &id),
+            Ok(id) => self.disagreement(item, id.as_bytes()),
             Err(_) => Some(CellFault::Memory),
         }
     }

@@ -25,7 +25,7 @@ use Rattle.gaz_changefile.specs.declared.action.Action.TheVariants.{Insert, Upda
 use Rattle.gaz_changefile.specs.declared.change.Basis.{Basis}
 use Rattle.gaz_changefile.specs.declared.change.Change.{Change}
 use Rattle.gaz_changefile.proofs.Runs.{read_text}
-use Rattle.gaz_changefile.proofs.Texts.{date_utf8, item_are}
+use Rattle.gaz_records.proofs.Texts.{date_utf8, item_are}
 use Rattle.gaz_changefile.proofs.RecordsBack.{for_to, head_all, tail_all}
 use Rattle.gaz_changefile.proofs.RulesKept.{file_faults}
 use Rattle.gaz_changefile.proofs.ContentsBack.{file_contents}

@@ -3,7 +3,6 @@ pub mod Least
 pub mod Orderly
 pub mod Typed
 pub mod Written
-pub mod Texts
 pub mod RecordsBack
 pub mod RulesKept
 pub mod ContentsBack

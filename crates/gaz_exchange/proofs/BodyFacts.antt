@@ -1,14 +1,9 @@
 -- The texts in a reply.
-use Rattle.std.proofs.Common.{◌≡◌, ℕ, ◌+◌, ◌<◌, true, false, not, take, get_or, append_assoc, List, [], ◌∷◌, ◌++◌, Ok, Err, ◌∙◌, ap, refl, arith, append-nil}
-use Rattle.std.specs.Prelude.{◌&&◌, codes, Bool, nat_le, length, IfOk, IsUtf8, Result}
-use Rattle.std.proofs.lemmas.Bool.Decides.{nat_tests}
+use Rattle.std.proofs.Common.{◌≡◌, ℕ, ◌+◌, ◌<◌, true, false, not, take, get_or, append_assoc, List, [], ◌∷◌, ◌++◌, Ok, Err, ◌∙◌, ap, refl, append-nil}
+use Rattle.std.specs.Prelude.{codes, Bool, length, IfOk, Result}
 use Rattle.std.specs.List.{flat_map}
 use Rattle.std.proofs.lemmas.Grind.{flat_map-append}
 use Rattle.std.proofs.lemmas.List.{take_more}
-use Rattle.std.proofs.lemmas.Str.{IsUtf8-from_ascii}
-use Rattle.std.proofs.lemmas.Str.Ascii.{IsAscii-cons, IsAscii-nil}
-use Rattle.std.specs.Str.{IsAscii}
-use Rattle.gaz_fields.specs.Labels.{are_label_bytes, is_label, is_label_byte}
 use Rattle.gaz_steps.specs.declared.question.Told.{Told}
 use Rattle.gaz_steps.specs.declared.question.Told.TheVariants as told
 use Rattle.gaz_exchange.specs.Replies.{is_extract, message, reply_text, takes_memory, told_text}
@@ -17,18 +12,6 @@ use Rattle.gaz_exchange.specs.declared.reply.Reply.TheVariants as reply
 use Rattle.json.specs.Print.{print, print_from, token_text}
 use Rattle.json.specs.Token.{Token}
 use Rattle.json.specs.Written.{Writes, Written}
-use Rattle.gaz_exchange.proofs.ExchangeFacts.{both}
-
-label_ascii : (t : List ℕ) → are_label_bytes t ≡ true → IsAscii t
-label_ascii [] h = IsAscii-nil
-label_ascii (b ∷ t) h =
-    let (first, more) = both (is_label_byte b) (are_label_bytes t) h in
-    let small : b < 128 = grind (arith, nat_tests, first) in
-    IsAscii-cons b t small (label_ascii t more)
-
--- a key is a text
-pub label_text : (most : ℕ) (t : List ℕ) → is_label most t ≡ true → IsUtf8 t
-label_text most t h = IsUtf8-from_ascii t (label_ascii t (both (nat_le 1 (length t) && nat_le (length t) most) (are_label_bytes t) h).1)
 
 -- the text of one element more
 pub texts_more : {X : Type 0} (f : X → List ℕ) (xs : List X) (i : ℕ) (d : X) → i < length xs → flat_map f (take (i + 1) xs) ≡ flat_map f (take i xs) ++ f (get_or xs i d)

@@ -1,11 +1,15 @@
--- The bytes of a label, as they are filled in.
+-- The bytes of a label, as they are filled in, and that they are a text.
 use Rattle.std.proofs.Common.{◌≡◌, ℕ, zero, suc, ◌+◌, ◌-◌, ◌<◌, ◌≤◌, List, [], ◌∷◌, ◌++◌, length, take, get_or, refl, sym, ap, ◌∙◌, arith, append_assoc, true, false, ◌==◌}
-use Rattle.std.specs.Prelude.{replicate}
+use Rattle.std.specs.Prelude.{IsUtf8, replicate, ◌&&◌, nat_le}
 use Rattle.std.proofs.lemmas.List.{length-take-le, take_more}
 use Rattle.std.proofs.Math.Seq.{take-append_seam, take-length, set-append_seam}
 use Rattle.std.proofs.Math.ListN.{set}
+use Rattle.std.proofs.lemmas.Bool.{and_parts}
 use Rattle.std.proofs.lemmas.Bool.Decides.{nat_tests}
-use Rattle.gaz_fields.specs.Labels.{IsPadded, are_label_bytes, before_zero, is_label}
+use Rattle.std.proofs.lemmas.Str.{IsUtf8-from_ascii}
+use Rattle.std.proofs.lemmas.Str.Ascii.{IsAscii-cons, IsAscii-nil}
+use Rattle.std.specs.Str.{IsAscii}
+use Rattle.gaz_fields.specs.Labels.{IsPadded, are_label_bytes, before_zero, is_label, is_label_byte}
 
 -- the first i bytes of the text, and 0 behind them
 abbrev pub filled : ℕ → ℕ → List ℕ → List ℕ
@@ -49,3 +53,15 @@ pub fill_reads : (most : ℕ) (t : List ℕ) → is_label most t ≡ true → ta
 fill_reads most t h =
     let good : are_label_bytes t ≡ true = grind (arith, nat_tests) in
     rw (take-length t, label_before_zero t (most - length t) good) (take-append_seam t (replicate (most - length t) 0))
+
+-- ---- a label is a text
+
+label_ascii : (t : List ℕ) → are_label_bytes t ≡ true → IsAscii t
+label_ascii [] h = IsAscii-nil
+label_ascii (b ∷ t) h =
+    let (first, more) = and_parts (is_label_byte b) (are_label_bytes t) h in
+    let small : b < 128 = grind (arith, nat_tests, first) in
+    IsAscii-cons b t small (label_ascii t more)
+
+pub label_utf8 : (most : ℕ) (t : List ℕ) → is_label most t ≡ true → IsUtf8 t
+label_utf8 most t h = IsUtf8-from_ascii t (label_ascii t (and_parts (nat_le 1 (length t) && nat_le (length t) most) (are_label_bytes t) h).1)

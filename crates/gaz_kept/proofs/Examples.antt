@@ -19,9 +19,9 @@ use Rattle.gaz_views.specs.Examples.{street}
 use Rattle.gaz_views.specs.View.{View, empty_view}
 use Rattle.gaz_views.specs.declared.verdict.Verdict.{Verdict}
 use Rattle.gaz_views.specs.declared.verdict.Verdict.TheVariants.{Applied, Rejected}
-use Rattle.gaz_overlay.specs.Rows.{HistoryRow, view_after}
+use Rattle.gaz_overlay.specs.Rows.{HistoryRow}
 use Rattle.gaz_tables.specs.Receiveds.{judged}
-use Rattle.gaz_row_items.specs.Examples.{changed, changed_101, four_rows, of_1002}
+use Rattle.gaz_row_items.specs.Examples.{changed, changed_101, four_rows}
 use Rattle.gaz_row_items.specs.Versions.{histories_in, living, view_in}
 use Rattle.gaz_row_items.proofs.Examples.{at_1001, histories_1001, not_102, said, said_item}
 use Rattle.gaz_kept.specs.Examples.{WorkedBoard, WorkedExamples, WorkedFiles, WorkedTables, handed_on, held_6, overlapping, rejected_3, six_files, with_a_gap, worked_board}

@@ -10,12 +10,13 @@ ghost use Rattle.gaz_row_items.specs.Versions.{values_of};
 ghost use Rattle.gaz_kept.specs.Keeping.{AddsItem, ClosesRow, WritesKey, WritesKeys};
 ghost use Rattle.gaz_kept.specs.Keeping.{WritesVersions};
 
+use gaz_cells::id_of;
 use gaz_ids::{Code, Volume};
 use gaz_overlay::{NewRow, Overlay};
 use gaz_records::{Item, Key};
-use gaz_row_items::decoding::{kind_in, name_of};
+use gaz_row_items::decoding::kind_in;
 use gaz_row_items::newest::NEVER;
-use gaz_row_items::row_cells::{RowCells, cells_of, error_of, narrow};
+use gaz_row_items::row_cells::{RowCells, cells_of, narrow};
 use gaz_tables::versions;
 use sqlite::{Alter, Error, Transaction};
 use std::alloc::Global;
@@ -118,10 +119,7 @@ pub(crate) fn end_born<S: Alter>(
     ensures inside { StaysInside S.Store tx.old.conn.now tx.new.conn.now result }
 {
     let born = narrow(born)?;
-    let name = match name_of(alloc, key) {
-        Ok(name) => name,
-        Err(fault) => return Err(error_of(fault)),
-    };
+    let name = id_of(alloc, key)?;
     let cust = code.number() as u32;
     versions::close(tx, cust, kind, &name, born, volume.number() as u32)?;
     Ok(())

@@ -4,3 +4,4 @@ pub mod ItemsBack
 pub mod ReadItems
 pub mod KeyOrder
 pub mod SortOrder
+pub mod Texts

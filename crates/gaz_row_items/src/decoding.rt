@@ -1,14 +1,13 @@
 //! What the cells of a found row say: keys by their ids, and items by their bodies.
 ghost use Rattle.std.specs.Prelude.{◌≡◌, ◌<◌, pos, true, IfOk, Ok, Some};
-ghost use Rattle.std.specs.String.{string_bytes};
 ghost use Rattle.sqlite.specs.Order.{column};
 ghost use Rattle.sqlite.specs.declared.types.Value.TheVariants.{Int, Text};
 ghost use Rattle.gaz_records.specs.Keys.{key_of};
-ghost use Rattle.gaz_cells.specs.Ids.{id_of, is_key, key_named, kind_in};
+ghost use Rattle.gaz_cells.specs.Ids.{key_named, kind_in};
 ghost use Rattle.gaz_row_items.specs.Decoding.{IsBodyOf, IsItemAt};
 ghost use Rattle.gaz_row_items.specs.Versions.{text_in};
 
-use gaz_cells::{Bodies, id_of, key_named};
+use gaz_cells::{Bodies, key_named};
 use gaz_records::{FieldFault, Item, Key, Kind, SharedItem, item_of_text, key_of};
 use sqlite::Row;
 use sqlite::types::ValueRef;
@@ -33,20 +32,6 @@ pub fn kind_in(key: &Key) -> Kind
         Key::Blpu(_) => Kind::Blpu,
         Key::Xref(_) => Kind::Xref,
         Key::Lpi(_) => Kind::Lpi,
-    }
-}
-
-/// The text by which the tables name a key among those of its kind.
-pub fn name_of(alloc: Global, key: &Key) -> Result<String, RowFault>
-    ensures name { IfOk result (λ t. string_bytes t ≡ id_of key.now) }
-    ensures form { is_key key.now ≡ true }
-{
-    let Ok(id) = id_of(alloc, key) else {
-        return Err(RowFault::Memory);
-    };
-    match String::from_utf8(id) {
-        Ok(name) => Ok(name),
-        Err(_) => Err(RowFault::Wrong),
     }
 }
 

@@ -68,7 +68,7 @@ fields-utf8 (x ∷ xs) h =
     IsUtf8-append (44 ∷ []) (field_text default_writer x ++ fields_text default_writer xs) (one-byte 44 (lit< tt) refl)
     (IsUtf8-append (field_text default_writer x) (fields_text default_writer xs) (field-utf8 x h.0) (fields-utf8 xs h.1))
 
-body-utf8 : (row : Fields) → AreTexts row → IsUtf8 (row_body default_writer row)
+pub body-utf8 : (row : Fields) → AreTexts row → IsUtf8 (row_body default_writer row)
 body-utf8 [] h = IsUtf8-nil
 body-utf8 (x ∷ xs) h = IsUtf8-append (field_text default_writer x) (fields_text default_writer xs) (field-utf8 x h.0) (fields-utf8 xs h.1)
 

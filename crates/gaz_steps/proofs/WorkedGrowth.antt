@@ -37,8 +37,12 @@ settled = record {
   known = known;
   partial = follows_itself sample_register sent empty_board empty_board refl;
   periods = settles_first;
-  run = (gap_hub, grows sample_custodians sample_custodians refl refl, (gap_hub, (refl, record { let_in = refl; received = refl; settled = record { follows = late_settled.follows; settled = late_settled.settled }; answer = refl }), refl),
-      (gap_hub, grows sample_custodians with_new_town refl refl, refl, refl));
+  run = (
+    gap_hub,
+    grows sample_custodians sample_custodians refl refl,
+    (gap_hub, (refl, record { let_in = refl; received = refl; settled = record { follows = late_settled.follows; settled = late_settled.settled }; answer = refl }), refl),
+    (gap_hub, grows sample_custodians with_new_town refl refl, refl, refl),
+  );
   last_is = refl;
   settles = refl;
 }

@@ -1,8 +1,6 @@
 -- What a store's calls tell of it as a keeper that begin, change and end a judgement, and that write without one.
-use Rattle.std.proofs.Common.{◌≡◌, ◌≤◌, ◌∙◌, inl, ℕ, List, Result, Ok, Err, ap, refl, sym, subst}
+use Rattle.std.proofs.Common.{◌≡◌, ◌≤◌, inl, ℕ, List, Result, Ok, Err, refl, sym, subst}
 use Rattle.std.specs.Prelude.{⊤, Option, None, Some}
-use Rattle.std.specs.Result.{IsErrAnd}
-use Rattle.std.proofs.lemmas.Result.{err_from_is_err_and}
 use Rattle.sqlite.specs.Effect.{Database}
 use Rattle.sqlite.specs.Held.{state}
 use Rattle.sqlite.specs.State.{State}
@@ -64,10 +62,6 @@ enters_beside register old new a b Broken f g r Asked makes not e = record {
 }
 
 -- ---- the calls of a store
-
--- a fault that is passed on
-pub passed_on : {T : Type 0} (q : Result T ShelfFault) (e : ShelfFault) → IsErrAnd q (λ x. x ≡ e) → q ≡ Err e
-passed_on q e is = let p = err_from_is_err_and q is in p.1 ∙ ap Err p.2
 
 module _ {S R : Type 0} {store : Ghosts S} (register : List ℕ) (old : Store S R store) where
   abbrev s : State

@@ -108,10 +108,8 @@ impl Judgement {
         let Some(blpu) = found else {
             return Ok(None);
         };
-        match self.address_of(tables, uprn) {
-            Ok(address) => Ok(Some(Property { blpu, address })),
-            Err(fault) => Err(fault),
-        }
+        let address = self.address_of(tables, uprn)?;
+        Ok(Some(Property { blpu, address }))
     }
 
     /// Whether an approved LPI is on a street, and in this language where one is given.

@@ -52,13 +52,9 @@ impl Judgement {
         if self.any_passed.is_some() {
             return Ok(());
         }
-        match tables.any_passed(self.code) {
-            Ok(any) => {
-                self.any_passed = Some(any);
-                Ok(())
-            }
-            Err(fault) => Err(fault),
-        }
+        let any = tables.any_passed(self.code)?;
+        self.any_passed = Some(any);
+        Ok(())
     }
 
     /// Whether it is known that none was.
@@ -79,13 +75,9 @@ impl Judgement {
         ensures touched { OnOk result (is_touched self.new.changes key.now ≡ true) }
         ensures code { self.new.code ≡ self.old.code }
     {
-        match tables.stood(self.code, key) {
-            Ok((stood, item)) => match self.changes.touch(key, stood, item) {
-                Ok(()) => Ok(()),
-                Err(_) => Err(ShelfFault::Memory),
-            },
-            Err(fault) => Err(fault),
-        }
+        let (stood, item) = tables.stood(self.code, key)?;
+        self.changes.touch(key, stood, item)?;
+        Ok(())
     }
 
     // Touches a key, where it isn't touched yet.
@@ -113,10 +105,8 @@ impl Judgement {
             return Ok(());
         }
         let stood = tables.stands(self.code, key)?;
-        match self.changes.touch(key, stood, None) {
-            Ok(()) => Ok(()),
-            Err(_) => Err(ShelfFault::Memory),
-        }
+        self.changes.touch(key, stood, None)?;
+        Ok(())
     }
 
     /// Sets an item, an entry.
@@ -132,10 +122,8 @@ impl Judgement {
     {
         let key = key_of(&item);
         self.hide(tables, &key)?;
-        match self.changes.put(item) {
-            Ok(()) => Ok(()),
-            Err(_) => Err(ShelfFault::Memory),
-        }
+        self.changes.put(item)?;
+        Ok(())
     }
 
     // In which volume a number's current passage was born, where the judgement hasn't passed it on
@@ -168,14 +156,9 @@ impl Judgement {
         ensures code { self.new.code ≡ self.old.code }
     {
         self.hide(tables, &Key::Blpu(uprn))?;
-        let since = match self.since(tables, uprn) {
-            Ok(since) => since,
-            Err(fault) => return Err(fault),
-        };
-        match self.changes.release(uprn, to, hop, since) {
-            Ok(()) => Ok(()),
-            Err(_) => Err(ShelfFault::Memory),
-        }
+        let since = self.since(tables, uprn)?;
+        self.changes.release(uprn, to, hop, since)?;
+        Ok(())
     }
 
     /// Adopts an item, a BLPU, from another custodian.
@@ -196,14 +179,9 @@ impl Judgement {
             return Err(ShelfFault::Memory);
         };
         self.hide(tables, &key)?;
-        let since = match self.since(tables, uprn) {
-            Ok(since) => since,
-            Err(fault) => return Err(fault),
-        };
-        match self.changes.adopt(blpu, from, hop, since) {
-            Ok(()) => Ok(()),
-            Err(_) => Err(ShelfFault::Memory),
-        }
+        let since = self.since(tables, uprn)?;
+        self.changes.adopt(blpu, from, hop, since)?;
+        Ok(())
     }
 
     /// Takes a key's item.
@@ -217,9 +195,7 @@ impl Judgement {
         ensures code { self.new.code ≡ self.old.code }
     {
         self.touch(tables, key)?;
-        match self.changes.take(key) {
-            Ok(()) => Ok(()),
-            Err(_) => Err(ShelfFault::Memory),
-        }
+        self.changes.take(key)?;
+        Ok(())
     }
 }

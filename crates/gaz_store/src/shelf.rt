@@ -40,10 +40,8 @@ impl<S: Alter, R: OfRegister> Shelf for Store<S, R> {
 
     fn ever(&mut self, code: Code, key: &Key) -> Result<bool, ShelfFault> {
         self.judging.clear();
-        match self.judging.ask_passed(&mut self.tables, code, key) {
-            Ok(()) => self.judging.was_used(&mut self.tables, code, key),
-            Err(fault) => Err(fault),
-        }
+        self.judging.ask_passed(&mut self.tables, code, key)?;
+        self.judging.was_used(&mut self.tables, code, key)
     }
 
     fn approved_of(&mut self, code: Code, uprn: Uprn) -> Result<Vec<Key>, ShelfFault> {
@@ -85,13 +83,9 @@ impl<S: Alter, R: OfRegister> Shelf for Store<S, R> {
 
     fn custody(&mut self, code: Code, uprn: Uprn) -> Result<Option<Custody>, ShelfFault> {
         self.judging.clear();
-        match self
-            .judging
-            .ask_passed(&mut self.tables, code, &Key::Blpu(uprn))
-        {
-            Ok(()) => self.judging.custody(&mut self.tables, code, uprn),
-            Err(fault) => Err(fault),
-        }
+        self.judging
+            .ask_passed(&mut self.tables, code, &Key::Blpu(uprn))?;
+        self.judging.custody(&mut self.tables, code, uprn)
     }
 
     fn custody_at(

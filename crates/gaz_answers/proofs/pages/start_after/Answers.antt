@@ -21,4 +21,4 @@ pub returns : goal.returns
 returns c =
     let own : c.number-own.result ≡ number_of (kind_in c.args.key.now) = c.number-own.ensures ∙ ap number_of c.kind_in.ensures in
     let same : number_of (kind_in c.args.key.now) ≡ number_of c.args.kind = omega (arith, own, c.number.ensures, c.number-2.ensures, c.if-number-own.false, c.if-own-number.false) in
-    λ k known is. start_same c.args.kind c.args.key.now c.in_ok-name.ensures.form same k known is ∙ ap (λ t. is_behind t k) (sym c.in_ok-name.ensures.name)
+    λ k known is. start_same c.args.kind c.args.key.now c.in_ok-name.ensures.form same k known is ∙ ap (λ t. is_behind t k) (sym c.in_ok-name.ensures.id)

@@ -1,15 +1,16 @@
 use Rattle.std.proofs.Common.{refl}
 use Rattle.gaz_calls.specs.Writing.{Comes}
 use Rattle.gaz_calls.specs.Asking.{IsAnyway}
+use Rattle.gaz_calls.proofs.Answered.{passed_on}
 use Rattle.gaz_calls.proofs.Altering.{altered_nothing, statement_alters}
 use Rattle.gaz_calls.proofs.tables.Tables.add_file.Goals as goal
 
-pub returns-in-Err : goal.returns-in-Err
-returns-in-Err g c = altered_nothing _ _ _ _ IsAnyway _ c.ready.ensures.asks c.in-Err.is
+pub returns-in_err-ready : goal.returns-in_err-ready
+returns-in_err-ready g c = rw (passed_on _ _ c.from_residual.ensures.1) (altered_nothing _ _ _ _ IsAnyway _ c.ready.ensures.asks c.in_err-ready.was)
 
 pub returns : goal.returns
 returns g c =
     statement_alters _ _ _ _ _ _ _ (Comes c.args.cust c.args.volume c.args.bytes.now)
-    c.ready.ensures.asks c.in_default.ensures.ready
+    c.ready.ensures.asks c.in_ok-ready.ensures.ready
     c.receive-done.ensures.open c.receive-done.ensures.written c.receive-done.ensures.undone c.receive-done.ensures.leaves c.receive-done.ensures.certain
     refl refl c.told.ensures.tells

@@ -8,6 +8,6 @@ use Rattle.gaz_calls.proofs.tables.Tables.custody_rows_until.Goals as goal
 pub returns : goal.returns
 returns g c =
     query_asks _ _ _ _ _ _ _ (λ db rows. FindsCustodyUntil c.args.code c.args.id.now c.args.volume (rows_of db version2) rows.items)
-    c.ready.ensures.asks c.in_default.ensures.ready
+    c.ready.ensures.asks c.in_ok-ready.ensures.ready
     (rw c.number-cust.ensures.value at c.newest_until-found.ensures.asked.found) c.newest_until-found.ensures.asked.stays c.newest_until-found.ensures.asked.spared c.newest_until-found.ensures.asked.leaves
     refl refl c.told.ensures.tells

@@ -8,6 +8,6 @@ use Rattle.gaz_calls.proofs.tables.Tables.file_rows.Goals as goal
 pub returns : goal.returns
 returns g c =
     query_asks _ _ _ _ _ _ _ (λ db rows. FindsFile c.args.code c.args.volume (rows_of db received) rows.items)
-    c.ready.ensures.asks c.in_default.ensures.ready
+    c.ready.ensures.asks c.in_ok-ready.ensures.ready
     (rw (c.number.ensures.value, c.number-2.ensures.value) at c.file-found.ensures.asked.found) c.file-found.ensures.asked.stays c.file-found.ensures.asked.spared c.file-found.ensures.asked.leaves
     refl refl c.told.ensures.tells

@@ -2,7 +2,7 @@ use Rattle.std.proofs.Common.{subst, sym}
 use Rattle.std.specs.Prelude.{option_map}
 use Rattle.gaz_kept.specs.LastViews.{last_in}
 use Rattle.gaz_answers.specs.Streets.{AreBehind, IsStep, is_left_on}
-use Rattle.gaz_calls.proofs.Answered.{asked_fault, asked_step}
+use Rattle.gaz_calls.proofs.Answered.{asked_fault, asked_step, passed_on}
 use Rattle.gaz_calls.proofs.Composing.{asked_nothing, failed}
 use Rattle.gaz_answers.proofs.StreetRows.{walk_begins}
 use Rattle.gaz_calls.proofs.tables.Tables.left_on.Goals as goal
@@ -14,20 +14,20 @@ pages-init g c =
 
 pub pages-preserved : goal.pages-preserved
 pages-preserved g c =
-    asked_step _ _ _ _ c.street_step.result c.in-Ok.step c.in-Behind.id _ _ _ c.pages.invariant c.street_step.ensures c.in-Ok.is
+    asked_step _ _ _ _ c.street_step.result c.in_ok-step.step c.in-Behind.id _ _ _ c.pages.invariant c.street_step.ensures c.in_ok-step.was
     (λ db kept was step.
     subst (IsStep (is_left_on c.args.usrn c.args.lang (option_map (λ c. c.now) c.args.passed)) (last_in db c.args.code) c.as_str.result.now) c.in-Behind.is step
     (subst (AreBehind (is_left_on c.args.usrn c.args.lang (option_map (λ c. c.now) c.args.passed)) (last_in db c.args.code)) (sym c.as_str.ensures.value) was))
 
 pub returns-in-Told : goal.returns-in-Told
 returns-in-Told g c =
-    asked_step _ _ _ _ c.street_step.result c.in-Ok.step c.in-Told.found _ _ _ c.pages.invariant c.street_step.ensures c.in-Ok.is
+    asked_step _ _ _ _ c.street_step.result c.in_ok-step.step c.in-Told.found _ _ _ c.pages.invariant c.street_step.ensures c.in_ok-step.was
     (λ db kept was step.
     subst (IsStep (is_left_on c.args.usrn c.args.lang (option_map (λ c. c.now) c.args.passed)) (last_in db c.args.code) c.as_str.result.now) c.in-Told.is step
     (subst (AreBehind (is_left_on c.args.usrn c.args.lang (option_map (λ c. c.now) c.args.passed)) (last_in db c.args.code)) (sym c.as_str.ensures.value) was))
 
-pub returns-in-Err : goal.returns-in-Err
-returns-in-Err g c = asked_fault _ _ _ _ _ _ _ _ _ c.pages.invariant c.street_step.ensures c.in-Err.is
+pub returns-in_err-step : goal.returns-in_err-step
+returns-in_err-step g c = rw (passed_on _ _ c.from_residual.ensures.1) (asked_fault _ _ _ _ _ _ _ _ _ c.pages.invariant c.street_step.ensures c.in_err-step.was)
 
 pub returns : goal.returns
 returns g c = failed _ _ _ _ _ _ _ c.pages.invariant c.fail.ensures.fails

@@ -1,11 +1,14 @@
 use Rattle.std.proofs.Common.{subst}
 use Rattle.gaz_answers.specs.Lives.{IsLifePage}
-use Rattle.gaz_calls.proofs.Answered.{answered_ok}
+use Rattle.gaz_calls.proofs.Answered.{asked_read, told_so}
 use Rattle.gaz_answers.proofs.LivesTold.{page_tells}
 use Rattle.gaz_calls.proofs.tables.Tables.lives_step.Goals as goal
 
-pub returns-in-Ok-clause-asks : goal.returns-in-Ok-clause-asks
-returns-in-Ok-clause-asks g c =
-    answered_ok _ _ _ c.in_ok-rows.rows c.in-Ok.page _ _ c.rows_in_turn.ensures c.in_ok-rows.was (λ db kept found.
-    page_tells db kept c.args.after c.in_ok-rows.rows.items found c.in-Ok.page
-    (subst (λ rows. IsLifePage rows c.in-Ok.page) c.deref.ensures.value c.in-Ok.ensures.said))
+pub returns-clause-asks : goal.returns-clause-asks
+returns-clause-asks g c =
+    asked_read _ _ _ _ c.in_ok-rows.rows c.page_told.result _ _ _ _ c.rows_in_turn.ensures c.in_ok-rows.was c.page_told.ensures.said c.read.ensures (λ db kept found page said.
+    page_tells db kept c.args.after c.in_ok-rows.rows.items found page
+    (subst (λ rows. IsLifePage rows page) c.deref.ensures.value said))
+
+pub returns-clause-entries : goal.returns-clause-entries
+returns-clause-entries g c = told_so _ _ c.page_told.result _ _ c.read.ensures c.page_told.ensures.entries

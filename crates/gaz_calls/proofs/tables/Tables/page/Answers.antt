@@ -1,7 +1,7 @@
 use Rattle.std.proofs.Common.{◌∙◌, arith, sym}
 use Rattle.gaz_keeper.specs.Board.{view_after}
 use Rattle.gaz_kept.specs.Contents.{board_of}
-use Rattle.gaz_calls.proofs.Answered.{asked_as, failed_at_once}
+use Rattle.gaz_calls.proofs.Answered.{asked_as}
 use Rattle.gaz_calls.proofs.Composing.{asked_nothing}
 use Rattle.gaz_answers.proofs.PageRows.{not_reached, page_of_none}
 use Rattle.gaz_calls.proofs.tables.Tables.page.Goals as goal
@@ -14,8 +14,5 @@ pub returns-then-not-is_entry : goal.returns-then-not-is_entry
 returns-then-not-is_entry g c =
     asked_nothing _ c.new-then-not-is_entry.result _ (λ db kept within. c.new-then-not-is_entry.ensures.items ∙ page_of_none (view_after (board_of db) c.args.code c.args.volume) c.args.kind c.args.after c.args.most (sym c.is_entry.ensures ∙ c.if-not-is_entry.true))
 
-pub returns-in-Ok : goal.returns-in-Ok
-returns-in-Ok g c = asked_as _ _ c.page_from.result _ _ c.page_from.ensures (λ db kept items is. is c.args.after c.in-Ok.ensures)
-
-pub returns-in-Err : goal.returns-in-Err
-returns-in-Err g c = failed_at_once _ _ _ _ c.row_fault.ensures
+pub returns : goal.returns
+returns g c = asked_as _ _ c.page_from.result _ _ c.page_from.ensures (λ db kept items is. is c.args.after c.in_ok-start.ensures)

@@ -1,11 +1,11 @@
 use Rattle.std.proofs.Common.{subst}
 use Rattle.gaz_answers.specs.Paging.{SayItems}
-use Rattle.gaz_calls.proofs.Answered.{answered_ok}
+use Rattle.gaz_calls.proofs.Answered.{asked_read}
 use Rattle.gaz_answers.proofs.PageRows.{page_on_board}
 use Rattle.gaz_calls.proofs.tables.Tables.page_behind.Goals as goal
 
-pub returns-in-Ok : goal.returns-in-Ok
-returns-in-Ok g c =
-    answered_ok _ _ _ c.in_ok-rows.rows c.in-Ok.items _ _ c.holding_all.ensures c.in_ok-rows.was (λ db kept found.
-    page_on_board db kept c.args.code c.args.volume c.args.kind c.requires c.args.start.now c.args.most c.in_ok-rows.rows.items found c.in-Ok.items.items
-    (subst (λ rows. SayItems c.args.kind rows c.in-Ok.items.items) c.deref.ensures.value c.in-Ok.ensures))
+pub returns : goal.returns
+returns g c =
+    asked_read _ _ _ _ c.in_ok-rows.rows c.items_in.result _ _ _ _ c.holding_all.ensures c.in_ok-rows.was c.items_in.ensures c.read.ensures (λ db kept found items say.
+    page_on_board db kept c.args.code c.args.volume c.args.kind c.requires c.args.start.now c.args.most c.in_ok-rows.rows.items found items.items
+    (subst (λ rows. SayItems c.args.kind rows items.items) c.deref.ensures.value say))

@@ -1,12 +1,12 @@
 use Rattle.std.proofs.Common.{subst}
 use Rattle.std.specs.Prelude.{option_map}
 use Rattle.gaz_answers.specs.Streets.{IsStepOf, names_left}
-use Rattle.gaz_calls.proofs.Answered.{answered_ok}
+use Rattle.gaz_calls.proofs.Answered.{asked_read}
 use Rattle.gaz_answers.proofs.StreetRows.{parts_told}
 use Rattle.gaz_calls.proofs.tables.Tables.part_step.Goals as goal
 
-pub returns-in-Ok : goal.returns-in-Ok
-returns-in-Ok g c =
-    answered_ok _ _ _ c.in_ok-rows.rows c.in-Ok.step _ _ c.part_rows.ensures.asks c.in_ok-rows.was (λ db kept found.
-    parts_told db kept c.args.code c.args.kind c.requires c.args.uprn c.part_rows.ensures.some (option_map (λ c. c.now) c.args.passed) c.args.start.now 512 c.in_ok-rows.rows.items found c.in-Ok.step
-    (subst (λ rows. IsStepOf 512 rows (names_left c.args.kind (option_map (λ c. c.now) c.args.passed)) c.in-Ok.step) c.deref.ensures.value c.in-Ok.ensures))
+pub returns : goal.returns
+returns g c =
+    asked_read _ _ _ _ c.in_ok-rows.rows c.parts_told.result _ _ _ _ c.part_rows.ensures.asks c.in_ok-rows.was c.parts_told.ensures c.read.ensures (λ db kept found step tells.
+    parts_told db kept c.args.code c.args.kind c.requires c.args.uprn c.part_rows.ensures.some (option_map (λ c. c.now) c.args.passed) c.args.start.now 512 c.in_ok-rows.rows.items found step
+    (subst (λ rows. IsStepOf 512 rows (names_left c.args.kind (option_map (λ c. c.now) c.args.passed)) step) c.deref.ensures.value tells))

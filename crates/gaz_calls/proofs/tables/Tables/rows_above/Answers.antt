@@ -8,6 +8,6 @@ use Rattle.gaz_calls.proofs.tables.Tables.rows_above.Goals as goal
 pub returns : goal.returns
 returns g c =
     query_asks _ _ _ _ _ _ _ (λ db rows. FindsAbove c.args.code c.args.volume c.args.most (rows_of db received) rows.items)
-    c.ready.ensures.asks c.in_default.ensures.ready
+    c.ready.ensures.asks c.in_ok-ready.ensures.ready
     (rw c.number.ensures.value at c.above-found.ensures.asked.found) c.above-found.ensures.asked.stays c.above-found.ensures.asked.spared c.above-found.ensures.asked.leaves
     refl refl c.told.ensures.tells

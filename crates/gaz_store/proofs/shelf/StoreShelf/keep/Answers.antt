@@ -1,4 +1,5 @@
-use Rattle.gaz_store.proofs.StoreCalls.{keeps, keeps_not, passed_on, refused}
+use Rattle.gaz_calls.proofs.Answered.{passed_on}
+use Rattle.gaz_store.proofs.StoreCalls.{keeps, keeps_not, refused}
 use Rattle.gaz_store.proofs.shelf.StoreShelf.keep.Goals as goal
 
 pub returns-clause-keeps : goal.returns-clause-keeps

@@ -1,5 +1,5 @@
--- The texts of items' fields are UTF-8.
-use Rattle.std.proofs.Common.{◌≡◌, ℕ, ◌^◌, ◌<◌, ◌≤◌, true, List, [], ◌∷◌, ◌++◌, length, refl, arith, Option, Some, None, lit<}
+-- The texts of items' fields are UTF-8, and so are their rows.
+use Rattle.std.proofs.Common.{◌≡◌, ℕ, ◌^◌, ◌<◌, ◌≤◌, true, List, [], ◌∷◌, ◌++◌, refl, arith, Option, Some, None, lit<}
 use Rattle.std.specs.Prelude.{IsUtf8, ◌&&◌, nat_le, decimal}
 use Rattle.std.specs.Option.{unwrap_or}
 use Rattle.std.specs.Str.{IsAscii, chars, is_utf8}
@@ -13,18 +13,18 @@ use Rattle.gaz_ids.specs.declared.lang.Lang.TheVariants.{Cym, Eng}
 use Rattle.gaz_ids.specs.declared.status.Status.{Status}
 use Rattle.gaz_ids.specs.declared.status.Status.TheVariants.{Approved, Alternative, Provisional, Historical}
 use Rattle.gaz_rows.specs.Rows.{AreTexts}
-use Rattle.gaz_rows.proofs.Utf8.{decimal-utf8, texts-append}
+use Rattle.gaz_rows.proofs.Utf8.{body-utf8, decimal-utf8, texts-append}
 use Rattle.gaz_addressable.specs.HouseNumbers.{HouseNumberValue, RangeValue, is_before_end, is_house_number, is_number_or_none, is_suffix}
 use Rattle.gaz_addressable.specs.Objects.{ObjectValue, digits_text, from_of, is_object, is_range_or_none, is_text_or_none, is_there, letter_text, texts_of, to_of}
 use Rattle.gaz_addressable.specs.Texts.{char_count, is_plain, is_text}
 use Rattle.gaz_addressable.proofs.Characters.{plain_utf8}
 use Rattle.gaz_fields.specs.Days.{CivilDay, is_day_or_none, date_text, end_text, is_day, two}
-use Rattle.gaz_fields.specs.Labels.{are_label_bytes, is_label, is_label_byte}
 use Rattle.gaz_fields.proofs.Both.{and-left, and-right}
+use Rattle.gaz_fields.proofs.LabelBytes.{label_utf8}
 use Rattle.gaz_records.specs.Adopts.{adopt_texts, is_adopt}
 use Rattle.gaz_records.specs.Blpus.{BlpuValue, blpu_texts, is_blpu, is_parent, parent_text}
 use Rattle.gaz_records.specs.Descriptors.{DescriptorValue, descriptor_texts, is_descriptor}
-use Rattle.gaz_records.specs.Items.{is_item, item_texts}
+use Rattle.gaz_records.specs.Items.{is_item, item_text, item_texts}
 use Rattle.gaz_records.specs.Lpis.{LpiValue, is_lpi, is_secondary, lpi_texts, secondary_texts}
 use Rattle.gaz_records.specs.Releases.{is_release, release_texts}
 use Rattle.gaz_records.specs.Streets.{StreetValue, is_street, street_texts}
@@ -64,15 +64,6 @@ end_utf8 : (d : Option CivilDay) → is_day_or_none d ≡ true → IsUtf8 (end_t
 end_utf8 None h = IsUtf8-nil
 end_utf8 (Some d) h = date_utf8 d h
 
-label_ascii : (t : List ℕ) → are_label_bytes t ≡ true → IsAscii t
-label_ascii [] h = IsAscii-nil
-label_ascii (b ∷ bs) h =
-    let here : is_label_byte b ≡ true = and-left (is_label_byte b) (are_label_bytes bs) h in
-    IsAscii-cons b bs (grind (arith, nat_tests, here)) (label_ascii bs (and-right (is_label_byte b) (are_label_bytes bs) h))
-
-label_utf8 : (most : ℕ) (t : List ℕ) → is_label most t ≡ true → IsUtf8 t
-label_utf8 most t h = IsUtf8-from_ascii t (label_ascii t (and-right (nat_le 1 (length t) && nat_le (length t) most) (are_label_bytes t) h))
-
 text_utf8 : (most : ℕ) (t : List ℕ) → is_text most t ≡ true → IsUtf8 t
 text_utf8 most t h = plain_utf8 t (and-left (is_plain t) (nat_le (char_count t) most) h)
 
@@ -80,7 +71,7 @@ opt_text_utf8 : (most : ℕ) (t : Option (List ℕ)) → is_text_or_none most t 
 opt_text_utf8 most None h = IsUtf8-nil
 opt_text_utf8 most (Some t) h = text_utf8 most t h
 
-lang_utf8 : (l : Lang) → IsUtf8 (lang_text l)
+pub lang_utf8 : (l : Lang) → IsUtf8 (lang_text l)
 unfolding is_utf8 chars encode
 lang_utf8 Cym = IsUtf8-from_is_utf8 (lang_text Cym) refl
 lang_utf8 Eng = IsUtf8-from_is_utf8 (lang_text Eng) refl
@@ -213,3 +204,6 @@ item_are (item.Xref x) h = xref_are x h
 item_are (item.Lpi x) h = lpi_are x h
 item_are (item.Release x) h = release_are x h
 item_are (item.Adopt x) h = adopt_are x h
+
+pub item_utf8 : (x : Item) → is_item x ≡ true → IsUtf8 (item_text x)
+item_utf8 x h = body-utf8 (item_texts x) (item_are x h)
