@@ -6,6 +6,8 @@ pub mod Fits
 pub mod PageRows
 pub mod StreetRows
 pub mod Saying
+pub mod NamedIds
+pub mod VersionRows
 pub mod Verdicts
 pub mod Bytes
 pub mod LifeRows
@@ -13,3 +15,8 @@ pub mod PassageRows
 pub mod LivesTold
 pub mod VolumesTold
 pub mod WorkedLives
+pub mod ShownRows
+pub mod ShownFiles
+pub mod ShownPassages
+pub mod ShownItems
+pub mod ShownVersions

@@ -169,7 +169,7 @@ walk_begins db kept c passes e there pass =
 -- ---- a page of a street
 
 -- a row names the key of the item that it holds
-named : (r : Row) (v : IsVersion r) (x : Item) → item_in r ≡ Some x → (k : Kind) → kind_of x ≡ k → key_named k (text_in (table.id_of r)) ≡ Some (key_of x)
+pub named : (r : Row) (v : IsVersion r) (x : Item) → item_in r ≡ Some x → (k : Kind) → kind_of x ≡ k → key_named k (text_in (table.id_of r)) ≡ Some (key_of x)
 named r v x is k of_kind = ap (key_named k) (said_id r v x is) ∙ ap (λ m. key_named m (id_of (key_of x))) (sym (key_kind r v x is ∙ of_kind)) ∙ ids_back (key_of x) (said_key r v x is)
 
 an_lpi : (usrn : ℕ) (x : Item) → is_approved_on usrn None x ≡ true → kind_of x ≡ kind.Lpi

@@ -1,20 +1,24 @@
 -- What the rows of `version2` say one after the other, in the order of their rowids.
-use Rattle.std.specs.Prelude.{◌≡◌, ◌≤◌, ◌==◌, ℕ, ℤ, pos, ◌<ℤ◌, ◌≤ℤ◌, ⊤, Bool, true, not, All}
+use Rattle.std.specs.Prelude.{◌≡◌, ◌≤◌, ◌<◌, ◌==◌, ℕ, ℤ, pos, ◌<ℤ◌, ◌≤ℤ◌, ⊤, Bool, true, not, All}
 use Rattle.std.specs.Prelude.{if◌then◌else◌, List, [], length, map, filter}
 use Rattle.std.specs.Prelude.{Option, None, Some, option_map}
+use Rattle.sqlite.specs.declared.types.Value.{Value}
 use Rattle.sqlite.specs.declared.types.Value.TheVariants.{Int}
 use Rattle.sqlite.specs.Edit.{id_in}
-use Rattle.sqlite.specs.Order.{Row}
+use Rattle.sqlite.specs.Order.{Row, column}
 use Rattle.sqlite_rules.specs.Lists.{Has}
 use Rattle.sqlite_trees.specs.Tree.{IsAscending}
+use Rattle.gaz_ids.specs.Limits.{last_code}
 use Rattle.gaz_records.specs.Items.{is_entry}
 use Rattle.gaz_records.specs.declared.item.Item.{Item}
 use Rattle.gaz_cells.specs.Custody.{custody_kind}
 use Rattle.gaz_overlay.specs.Rows.{never}
 use Rattle.gaz_tables.specs.Rowids.{IsPlacedBehind, rowid_of}
 use Rattle.gaz_tables.specs.Shows.{IsAnyRow}
-use Rattle.gaz_tables.specs.Versions.{born_of, cust_of, gone_of, kind_of}
-use Rattle.gaz_row_items.specs.Versions.{history_in, item_in, number_in}
+use Rattle.gaz_tables.specs.Versions.{blpu_of, born_of, cust_of, gone_of, kind_of, lang_of}
+use Rattle.gaz_tables.specs.Versions.{live_of, street_of}
+use Rattle.gaz_row_items.specs.Versions.{IsWhole, history_in, item_in, number_in}
+use Rattle.gaz_kept.specs.Kept.{IsVersion}
 use Rattle.gaz_loaded.specs.Telling.{told}
 use Rattle.gaz_loaded.specs.declared.listed.Life.{Life}
 use Rattle.gaz_answers.specs.Answers.{most_rows}
@@ -53,6 +57,49 @@ SayLives rows lives = map life_in (filter is_items rows) ≡ map Some lives
 abbrev pub IsLifePage : List Row → LifePage → Type 0
 IsLifePage rows (Lives lives) = SayLives rows lives.items × (lives.items ≡ [] → rows ≡ [])
 IsLifePage rows (Behind last) = SayLives rows [] × (r : Row) × Has rows r × (rowid_of r ≡ Int last)
+
+-- a row is an item's or says what became of a number, under a rowid and a custodian's code, as a
+-- store writes it
+pub record ShowsVersion (r : Row) : Type 0 where
+  pub version : IsVersion r
+  pub place : ℤ
+  pub rowid : rowid_of r ≡ Int place
+  pub first : 1 ≤ number_in (cust_of r)
+  pub last : number_in (cust_of r) ≤ last_code
+
+-- each row has a custodian's code
+abbrev pub AreOfCustodians : List Row → Type 0
+AreOfCustodians rows =
+    (r : Row) → Has rows r → (1 ≤ number_in (cust_of r)) × (number_in (cust_of r) ≤ last_code)
+
+-- the row is an item's
+abbrev pub ShowsLife : Row → Type 0
+ShowsLife r = ShowsVersion r × (is_items r ≡ true)
+
+-- ---- what is read of a row
+
+-- a whole number, also one below 0, stands in a column
+abbrev pub HasNumber : Row → ℕ → Type 0
+HasNumber r place = (n : ℤ) × (column r place ≡ Int n)
+
+-- the value is a whole number below 256
+abbrev pub IsSmall : Value → Type 0
+IsSmall v = IsWhole v × (number_in v < 256)
+
+-- numbers stand where the item is looked for
+pub record HasLinks (r : Row) : Type 0 where
+  pub blpu : IsWhole (blpu_of r)
+  pub street : IsWhole (street_of r)
+  pub lang : IsSmall (lang_of r)
+  pub live : IsSmall (live_of r)
+
+-- a custodian's code stands in the row
+pub record HasCode (r : Row) : Type 0 where
+  pub code : IsWhole (cust_of r)
+  pub first : 1 ≤ number_in (cust_of r)
+  pub last : number_in (cust_of r) ≤ last_code
+
+-- ---- what it is of the table
 
 -- a life has a row's rowid and custodian, and is that row's history
 pub record SaysLife (r : Row) (life : Life) : Type 0 where

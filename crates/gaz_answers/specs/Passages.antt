@@ -5,7 +5,8 @@ use Rattle.gaz_ids.specs.Limits.{last_volume}
 use Rattle.gaz_records.specs.declared.key.Key.TheVariants as key
 use Rattle.gaz_records.specs.declared.item.Kind.TheVariants as kind
 use Rattle.gaz_cells.specs.Ids.{id_of, is_key, key_named}
-use Rattle.gaz_row_items.specs.NewestPassages.{SaysPassed}
+use Rattle.gaz_row_items.specs.Decoding.{NamesKey}
+use Rattle.gaz_row_items.specs.NewestPassages.{SaysPassed, ShowsPassage}
 use Rattle.gaz_row_items.specs.Versions.{text_in}
 use Rattle.gaz_loaded.specs.declared.listed.Passage.{Passage}
 
@@ -13,6 +14,11 @@ use Rattle.gaz_loaded.specs.declared.listed.Passage.{Passage}
 pub record SaysPassage (r : Row) (x : Passage) : Type 0 where
   pub number : key_named kind.Blpu (text_in (column r 0)) ≡ Some (key.Blpu x.uprn)
   pub passed : SaysPassed 1 r (record { born = x.born; custody = x.custody })
+
+-- such a row says what became of some number, as a store writes it
+pub record ShowsPassed (r : Row) : Type 0 where
+  pub number : NamesKey kind.Blpu r 0
+  pub passage : ShowsPassage 1 r
 
 -- each row says one, and these are they in turn
 abbrev pub SayPassages : List Row → List Passage → Type 0

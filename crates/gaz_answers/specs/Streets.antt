@@ -1,6 +1,6 @@
 -- What a page of a street, or of what names a BLPU, tells.
 use Rattle.std.specs.Prelude.{◌≡◌, ◌<◌, ◌&&◌, ◌==◌, ℕ, Bool, true, false, not, List, length}
-use Rattle.std.specs.Prelude.{Option, None, Some}
+use Rattle.std.specs.Prelude.{Option, None, Some, IsUtf8}
 use Rattle.std.specs.List.{list_any}
 use Rattle.std.specs.String.{string_bytes}
 use Rattle.sqlite.specs.Order.{Row, column}
@@ -16,7 +16,8 @@ use Rattle.gaz_views.specs.View.{View}
 use Rattle.gaz_views.specs.Words.{entries, is_approved_on, is_child_of, names}
 use Rattle.gaz_cells.specs.Ids.{key_named}
 use Rattle.gaz_overlay.specs.Changes.{Changes, is_touched}
-use Rattle.gaz_row_items.specs.Versions.{text_in}
+use Rattle.gaz_row_items.specs.Decoding.{Each, NamesKey}
+use Rattle.gaz_row_items.specs.Versions.{IsText, IsWhole, text_in}
 use Rattle.gaz_answers.specs.Paging.{is_behind, says_lang}
 use Rattle.gaz_answers.specs.declared.steps.Step.{Step}
 use Rattle.gaz_answers.specs.declared.steps.Step.TheVariants.{Told, Behind}
@@ -57,7 +58,26 @@ says_left lang passed r =
 abbrev pub names_left : Kind → Option Changes → Row → Bool
 names_left kd passed r = leaves passed (key_named kd (text_in (column r 0)))
 
+-- a row of a street, of id and language, says both, as a store writes it
+pub record ShowsOnStreet (r : Row) : Type 0 where
+  pub key : NamesKey kind.Lpi r 0
+  pub lang : IsWhole (column r 1)
+
+-- a row of a kind, of id, says it, as a store writes it
+abbrev pub ShowsPart : Kind → Row → Type 0
+ShowsPart kd r = NamesKey kd r 0
+
 -- ---- how it is looked for
+
+-- a text of UTF-8 stands in the first column of a row
+pub record HasId (r : Row) : Type 0 where
+  pub text : IsText (column r 0)
+  pub utf8 : IsUtf8 (text_in (column r 0))
+
+-- there are rows, and in each stands such a text
+pub record HasLastId (rows : List Row) : Type 0 where
+  pub some : 0 < length rows
+  pub each : Each HasId rows
 
 -- each entry that passes comes behind an id
 abbrev pub AreBehind : (Key × Item → Bool) → View → List ℕ → Type 0

@@ -6,6 +6,7 @@ use Rattle.sqlite.specs.declared.types.Value.TheVariants.{Int}
 use Rattle.sqlite.specs.Order.{Row, column}
 use Rattle.sqlite_rules.specs.Lists.{Has}
 use Rattle.sqlite_trees.specs.Tree.{IsAscending}
+use Rattle.gaz_ids.specs.Limits.{last_volume}
 use Rattle.gaz_keeper.specs.Received.{Received}
 use Rattle.gaz_answers.specs.Answers.{most_rows}
 
@@ -15,6 +16,13 @@ whole n = Int (pos n)
 -- each row says a volume, and these are they in turn
 abbrev pub SayVolumes : List Row → List ℕ → Type 0
 SayVolumes rows volumes = map (λ r. column r 0) rows ≡ map whole volumes
+
+-- a row says a volume that a custodian may send
+pub record ShowsVolume (r : Row) : Type 0 where
+  pub volume : ℕ
+  pub said : column r 0 ≡ Int (pos volume)
+  pub first : 1 ≤ volume
+  pub last : volume ≤ last_volume
 
 abbrev pub WasReceived : Received → ℕ → ℕ → Type 0
 WasReceived files c volume = IsSome (finite.get files (c, volume))

@@ -3,9 +3,12 @@ ghost use Rattle.std.specs.Prelude.{◌≡◌, pos, true, All, IfOk, Some};
 ghost use Rattle.sqlite.specs.Order.{column};
 ghost use Rattle.sqlite.specs.declared.types.Value.TheVariants.{Int};
 ghost use Rattle.gaz_records.specs.Items.{is_entry};
-ghost use Rattle.gaz_tables.specs.Versions.{hop_of};
-ghost use Rattle.gaz_row_items.specs.Versions.{cells_in, item_in};
-ghost use Rattle.gaz_answers.specs.Lives.{AreEntries, IsLifePage, SayLives};
+ghost use Rattle.gaz_tables.specs.Versions.{hop_of, kind_of};
+ghost use Rattle.gaz_row_items.specs.Decoding.{Each, IsTold, IsToldOrMemory};
+ghost use Rattle.gaz_row_items.specs.Versions.{IsWhole, cells_in, item_in};
+ghost use Rattle.gaz_kept.specs.Kept.{IsItemRow};
+ghost use Rattle.gaz_answers.specs.Lives.{AreEntries, HasCode, HasLinks, HasNumber, IsLifePage};
+ghost use Rattle.gaz_answers.specs.Lives.{IsSmall, SayLives, ShowsLife, ShowsVersion};
 ghost use Rattle.gaz_answers.specs.Lives.{gone_in, is_items, life_in};
 
 use gaz_cells::{Bodies, CUSTODY, CellFault, Links, Row as Cells};
@@ -31,7 +34,8 @@ pub enum LifePage {
 
 // The whole number in a column, also one below 0, where one stands there.
 fn signed(row: &Row, at: usize) -> Result<i64, RowFault>
-    ensures { IfOk result (λ n. column row.now at ≡ Int n) }
+    ensures said { IfOk result (λ n. column row.now at ≡ Int n) }
+    ensures told { IsTold (HasNumber row.now at) result }
 {
     match row.get_ref(at) {
         Ok(ValueRef::Int(n)) => Ok(n),
@@ -41,7 +45,8 @@ fn signed(row: &Row, at: usize) -> Result<i64, RowFault>
 
 // A number below 256.
 fn small(row: &Row, at: usize) -> Result<u8, RowFault>
-    ensures { IfOk result (λ n. column row.now at ≡ Int (pos n)) }
+    ensures said { IfOk result (λ n. column row.now at ≡ Int (pos n)) }
+    ensures told { IsTold (IsSmall (column row.now at)) result }
 {
     let said = number(row, at)?;
     if said > 255 {
@@ -52,7 +57,8 @@ fn small(row: &Row, at: usize) -> Result<u8, RowFault>
 
 // The numbers by which the item is looked for.
 fn links_in(row: &Row) -> Result<Links, RowFault>
-    ensures { IfOk result (λ links. links ≡ (cells_in row.now).links) }
+    ensures said { IfOk result (λ links. links ≡ (cells_in row.now).links) }
+    ensures told { IsTold (HasLinks row.now) result }
 {
     Ok(Links {
         blpu: number(row, 4)?,
@@ -66,6 +72,7 @@ fn links_in(row: &Row) -> Result<Links, RowFault>
 fn item_in(alloc: Global, bodies: &mut Bodies<'_>, row: &Row) -> Result<SharedItem, RowFault>
     ensures said { IfOk result (λ item. item_in row.now ≡ Some item) }
     ensures entry { IfOk result (λ item. is_entry item ≡ true) }
+    ensures told { IsToldOrMemory (IsItemRow row.now) result }
 {
     let kind = number(row, 2)?;
     let id = text(row, 3)?;
@@ -89,7 +96,8 @@ fn item_in(alloc: Global, bodies: &mut Bodies<'_>, row: &Row) -> Result<SharedIt
 
 // The custodian of this number.
 fn code_in(row: &Row) -> Result<Code, RowFault>
-    ensures { IfOk result (λ code. column row.now 1 ≡ Int (pos code)) }
+    ensures said { IfOk result (λ code. column row.now 1 ≡ Int (pos code)) }
+    ensures told { IsTold (HasCode row.now) result }
 {
     match Code::of(number(row, 1)?) {
         Some(code) => Ok(code),
@@ -106,7 +114,8 @@ fn gone_in(gone: u64) -> Option<u64>
 
 // Nothing was handed on, as of every item.
 fn check_hop(row: &Row) -> Result<(), RowFault>
-    ensures { IfOk result (λ done. hop_of row.now ≡ Int (pos 0)) }
+    ensures said { IfOk result (λ done. hop_of row.now ≡ Int (pos 0)) }
+    ensures told { IsTold (hop_of row.now ≡ Int (pos 0)) result }
 {
     if number(row, 11)? == 0 {
         Ok(())
@@ -120,6 +129,7 @@ fn life_in(alloc: Global, bodies: &mut Bodies<'_>, row: &Row) -> Result<Life, Ro
     ensures said { IfOk result (λ life. life_in row.now ≡ Some life) }
     ensures entry { IfOk result (λ life. is_entry life.item ≡ true) }
     ensures hop { IfOk result (λ life. hop_of row.now ≡ Int (pos 0)) }
+    ensures told { IsToldOrMemory (ShowsLife row.now) result }
 {
     let place = signed(row, 0)?;
     let code = code_in(row)?;
@@ -138,7 +148,8 @@ fn life_in(alloc: Global, bodies: &mut Bodies<'_>, row: &Row) -> Result<Life, Ro
 
 // Whether a row is an item's, and doesn't say what became of a number.
 fn is_items(row: &Row) -> Result<bool, RowFault>
-    ensures { IfOk result (λ b. b ≡ is_items row.now) }
+    ensures said { IfOk result (λ b. b ≡ is_items row.now) }
+    ensures told { IsTold (IsWhole (kind_of row.now)) result }
 {
     let kind = number(row, 2)?;
     Ok(kind != CUSTODY)
@@ -148,6 +159,7 @@ fn is_items(row: &Row) -> Result<bool, RowFault>
 fn lives_in(alloc: Global, rows: &[Row]) -> Result<Vec<Life>, RowFault>
     ensures said { IfOk result (λ lives. SayLives rows.now lives.items) }
     ensures entries { IfOk result (λ lives. All (λ life. is_entry life.item ≡ true) lives.items) }
+    ensures told { IsToldOrMemory (Each ShowsVersion rows.now) result }
 {
     let lines = body_lines(alloc, rows, BODY)?;
     let mut bodies = Bodies::of(alloc, &lines);
@@ -165,11 +177,12 @@ fn lives_in(alloc: Global, rows: &[Row]) -> Result<Vec<Life>, RowFault>
 
 /// What is told of the rows of a page, each with all columns of `version2`, as their rowids rise.
 ///
-/// `Wrong` where a row says no life, nor what became of a number, as no row of a store does;
+/// Never `Wrong` where each row is an item's or says what became of a number, as a store's do;
 /// `Memory` where there is none for the lives.
 pub fn page_told(alloc: Global, rows: &[Row]) -> Result<LifePage, RowFault>
     ensures said { IfOk result (IsLifePage rows.now) }
     ensures entries { IfOk result AreEntries }
+    ensures told { IsToldOrMemory (Each ShowsVersion rows.now) result }
 {
     let lives = lives_in(alloc, rows)?;
     if !lives.is_empty() {

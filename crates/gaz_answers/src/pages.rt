@@ -1,6 +1,7 @@
 //! Where a page of a gazetteer's items begins, and which items its rows say.
 ghost use Rattle.std.specs.Prelude.{◌≡◌, IfOk, Some, option_map};
 ghost use Rattle.std.specs.String.{string_bytes};
+ghost use Rattle.gaz_row_items.specs.Decoding.{Each, IsToldOrMemory, ShowsItem};
 ghost use Rattle.gaz_answers.specs.Paging.{IsStart, SayItems, item_said};
 
 use gaz_cells::{Bodies, id_of};
@@ -43,7 +44,8 @@ fn said(
     kind: Kind,
     row: &Row,
 ) -> Result<SharedItem, RowFault>
-    ensures { IfOk result (λ item. item_said kind row.now ≡ Some item) }
+    ensures said { IfOk result (λ item. item_said kind row.now ≡ Some item) }
+    ensures told { IsToldOrMemory (ShowsItem kind row.now) result }
 {
     let key = key_in(kind, row, 0)?;
     next_item_in(alloc, bodies, &key, row, 1)
@@ -51,10 +53,11 @@ fn said(
 
 /// The items of a kind that rows of id and body say, in turn.
 ///
-/// `Wrong` where a row says none of the kind, as no row of a store does; `Memory` where there is
-/// none for the items.
+/// Never `Wrong` where each row says one, as a store's do; `Memory` where there is none for the
+/// items.
 pub fn items_in(alloc: Global, kind: Kind, rows: &[Row]) -> Result<Vec<SharedItem>, RowFault>
-    ensures { IfOk result (λ items. SayItems kind rows.now items.items) }
+    ensures said { IfOk result (λ items. SayItems kind rows.now items.items) }
+    ensures told { IsToldOrMemory (Each (ShowsItem kind) rows.now) result }
 {
     let lines = body_lines(alloc, rows, 1)?;
     let mut bodies = Bodies::of(alloc, &lines);

@@ -3,8 +3,9 @@ ghost use Rattle.std.specs.Prelude.{◌≡◌, IfOk, Some};
 ghost use Rattle.std.specs.String.{string_bytes};
 ghost use Rattle.sqlite.specs.Order.{column};
 ghost use Rattle.gaz_cells.specs.Ids.{key_named};
+ghost use Rattle.gaz_row_items.specs.Decoding.{Each, IsTold, IsToldOrMemory, NamesKey};
 ghost use Rattle.gaz_row_items.specs.Versions.{text_in};
-ghost use Rattle.gaz_answers.specs.Passages.{IsStartOf, SayPassages};
+ghost use Rattle.gaz_answers.specs.Passages.{IsStartOf, SayPassages, ShowsPassed};
 
 use gaz_cells::id_of;
 use gaz_ids::{LAST_VOLUME, Uprn};
@@ -17,8 +18,9 @@ use std::alloc::{AllocError, Global};
 
 // Which number a row names.
 fn uprn_in(row: &Row) -> Result<Uprn, RowFault>
-    ensures { IfOk result (λ uprn.
+    ensures said { IfOk result (λ uprn.
         key_named Kind.Blpu (text_in (column row.now 0)) ≡ Some (Key.Blpu uprn)) }
+    ensures told { IsTold (NamesKey Kind.Blpu row.now 0) result }
 {
     match key_in(Kind::Blpu, row, 0)? {
         Key::Blpu(uprn) => Ok(uprn),
@@ -28,10 +30,11 @@ fn uprn_in(row: &Row) -> Result<Uprn, RowFault>
 
 /// What rows say, in turn: each has id, born, gone, live, street, hop, lang and body.
 ///
-/// `Wrong` where a row doesn't say what became of a number, as each of kind 92 of a store does;
-/// `Memory` where there is none for what they say.
+/// Never `Wrong` where each says what became of a number, as a store's of kind 92 do; `Memory` where
+/// there is none for what they say.
 pub fn passages_in(alloc: Global, rows: &[Row]) -> Result<Vec<Passage>, RowFault>
-    ensures { IfOk result (λ passages. SayPassages rows.now passages.items) }
+    ensures said { IfOk result (λ passages. SayPassages rows.now passages.items) }
+    ensures told { IsToldOrMemory (Each ShowsPassed rows.now) result }
 {
     let mut passages = Vec::new(alloc);
     for row in rows {

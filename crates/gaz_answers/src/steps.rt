@@ -4,9 +4,11 @@ ghost use Rattle.std.specs.List.{list_any};
 ghost use Rattle.std.specs.String.{string_bytes};
 ghost use Rattle.sqlite.specs.Order.{column};
 ghost use Rattle.gaz_cells.specs.Ids.{key_named};
-ghost use Rattle.gaz_row_items.specs.Versions.{text_in};
+ghost use Rattle.gaz_row_items.specs.Decoding.{Each, IsTold, IsToldOrMemory, NamesKey};
+ghost use Rattle.gaz_row_items.specs.Versions.{IsWhole, text_in};
 ghost use Rattle.gaz_answers.specs.Paging.{says_lang};
-ghost use Rattle.gaz_answers.specs.Streets.{Decides, IsIdOf, IsStepOf};
+ghost use Rattle.gaz_answers.specs.Streets.{Decides, HasId, HasLastId, IsIdOf, IsStepOf};
+ghost use Rattle.gaz_answers.specs.Streets.{ShowsOnStreet, ShowsPart};
 ghost use Rattle.gaz_answers.specs.Streets.{leaves, names_left, says_left};
 
 use crate::sizes::MOST;
@@ -27,7 +29,8 @@ pub enum Step {
 
 // Whether a row of id and language says this language, or any where none is given.
 fn says_lang(row: &Row, lang: Option<Lang>) -> Result<bool, RowFault>
-    ensures { IfOk result (λ b. b ≡ says_lang lang row.now) }
+    ensures said { IfOk result (λ b. b ≡ says_lang lang row.now) }
+    ensures told { IsTold (IsWhole (column row.now 1)) result }
 {
     let said = number(row, 1)?;
     match lang {
@@ -38,8 +41,9 @@ fn says_lang(row: &Row, lang: Option<Lang>) -> Result<bool, RowFault>
 
 // Whether the key that a row names isn't passed over.
 fn leaves(passed: Option<&Overlay>, kind: Kind, row: &Row) -> Result<bool, RowFault>
-    ensures { IfOk result (λ b. b ≡ leaves
+    ensures said { IfOk result (λ b. b ≡ leaves
         (option_map (λ c. c.now) passed.entry) (key_named kind (text_in (column row.now 0)))) }
+    ensures told { IsTold (NamesKey kind row.now 0) result }
 {
     match passed {
         Some(changes) => Ok(!changes.is_touched(&key_in(kind, row, 0)?)),
@@ -49,7 +53,9 @@ fn leaves(passed: Option<&Overlay>, kind: Kind, row: &Row) -> Result<bool, RowFa
 
 // Whether a row of a street says this language, at a key that isn't passed over.
 fn says_left(row: &Row, lang: Option<Lang>, passed: Option<&Overlay>) -> Result<bool, RowFault>
-    ensures { IfOk result (λ b. b ≡ says_left lang (option_map (λ c. c.now) passed.entry) row.now) }
+    ensures said { IfOk result
+        (λ b. b ≡ says_left lang (option_map (λ c. c.now) passed.entry) row.now) }
+    ensures told { IsTold (ShowsOnStreet row.now) result }
 {
     let says = says_lang(row, lang)?;
     let left = leaves(passed, Kind::Lpi, row)?;
@@ -58,8 +64,9 @@ fn says_left(row: &Row, lang: Option<Lang>, passed: Option<&Overlay>) -> Result<
 
 // Whether one of these rows says it.
 fn any_says(rows: &[Row], lang: Option<Lang>, passed: Option<&Overlay>) -> Result<bool, RowFault>
-    ensures { IfOk result (λ b. b ≡ list_any
+    ensures said { IfOk result (λ b. b ≡ list_any
         (says_left lang (option_map (λ c. c.now) passed.entry)) rows.now) }
+    ensures told { IsTold (Each ShowsOnStreet rows.now) result }
 {
     for row in rows {
         if says_left(row, lang, passed)? {
@@ -71,8 +78,9 @@ fn any_says(rows: &[Row], lang: Option<Lang>, passed: Option<&Overlay>) -> Resul
 
 // Whether one of these rows names a key of a kind that isn't passed over.
 fn any_names(rows: &[Row], kind: Kind, passed: Option<&Overlay>) -> Result<bool, RowFault>
-    ensures { IfOk result (λ b. b ≡ list_any
+    ensures said { IfOk result (λ b. b ≡ list_any
         (names_left kind (option_map (λ c. c.now) passed.entry)) rows.now) }
+    ensures told { IsTold (Each (ShowsPart kind) rows.now) result }
 {
     for row in rows {
         if leaves(passed, kind, row)? {
@@ -84,7 +92,8 @@ fn any_names(rows: &[Row], kind: Kind, passed: Option<&Overlay>) -> Result<bool,
 
 // The id of the last row.
 fn last_id(alloc: Global, rows: &[Row]) -> Result<String, RowFault>
-    ensures { IfOk result (λ id. IsIdOf rows.now (string_bytes id)) }
+    ensures said { IfOk result (λ id. IsIdOf rows.now (string_bytes id)) }
+    ensures told { IsToldOrMemory (HasLastId rows.now) result }
 {
     let Some(row) = rows.last() else {
         return Err(RowFault::Wrong);
@@ -100,7 +109,8 @@ fn last_id(alloc: Global, rows: &[Row]) -> Result<String, RowFault>
 
 // What is told where this was found on a page of at most `MOST` rows.
 fn step_of(alloc: Global, rows: &[Row], found: bool) -> Result<Step, RowFault>
-    ensures { IfOk result (λ step. Decides MOST rows.now found step) }
+    ensures said { IfOk result (λ step. Decides MOST rows.now found step) }
+    ensures told { IsToldOrMemory (Each HasId rows.now) result }
 {
     if found {
         return Ok(Step::Told(true));
@@ -114,16 +124,17 @@ fn step_of(alloc: Global, rows: &[Row], found: bool) -> Result<Step, RowFault>
 /// What a page of a street tells, of at most `MOST` rows of id and language: whether one says this
 /// language, or any where none is given, at a key that `passed` hasn't touched.
 ///
-/// `Wrong` where a row says no key or no language, as no row of a store does; `Memory` where there
-/// is none for the last row's id.
+/// Never `Wrong` where each row says a key and a language, as a store's do; `Memory` where there is
+/// none for the last row's id.
 pub fn street_told(
     alloc: Global,
     rows: &[Row],
     lang: Option<Lang>,
     passed: Option<&Overlay>,
 ) -> Result<Step, RowFault>
-    ensures { IfOk result
+    ensures said { IfOk result
         (IsStepOf MOST rows.now (says_left lang (option_map (λ c. c.now) passed.entry))) }
+    ensures told { IsToldOrMemory (Each ShowsOnStreet rows.now) result }
 {
     let found = any_says(rows, lang, passed)?;
     step_of(alloc, rows, found)
@@ -132,7 +143,7 @@ pub fn street_told(
 /// What a page of what names a BLPU tells, of one kind and of at most `MOST` rows of id: whether
 /// one names a key that `passed` hasn't touched.
 ///
-/// `Wrong` where a row says no key of the kind, as no row of a store does; `Memory` where there is
+/// Never `Wrong` where each row says a key of the kind, as a store's do; `Memory` where there is
 /// none for the last row's id.
 pub fn parts_told(
     alloc: Global,
@@ -140,8 +151,9 @@ pub fn parts_told(
     kind: Kind,
     passed: Option<&Overlay>,
 ) -> Result<Step, RowFault>
-    ensures { IfOk result
+    ensures said { IfOk result
         (IsStepOf MOST rows.now (names_left kind (option_map (λ c. c.now) passed.entry))) }
+    ensures told { IsToldOrMemory (Each (ShowsPart kind) rows.now) result }
 {
     let found = any_names(rows, kind, passed)?;
     step_of(alloc, rows, found)

@@ -2,7 +2,8 @@
 ghost use Rattle.std.specs.Prelude.{◌≡◌, ◌≤◌, pos, IfOk};
 ghost use Rattle.sqlite.specs.Order.{column};
 ghost use Rattle.sqlite.specs.declared.types.Value.TheVariants.{Int};
-ghost use Rattle.gaz_answers.specs.Volumes.{SayVolumes};
+ghost use Rattle.gaz_row_items.specs.Decoding.{Each, IsTold, IsToldOrMemory};
+ghost use Rattle.gaz_answers.specs.Volumes.{SayVolumes, ShowsVolume};
 
 use gaz_ids::{LAST_VOLUME, Volume};
 use gaz_row_items::decoding::{RowFault, number};
@@ -11,7 +12,8 @@ use std::alloc::Global;
 
 // The volume that a row says.
 fn volume_in(row: &Row) -> Result<Volume, RowFault>
-    ensures { IfOk result (λ volume. column row.now 0 ≡ Int (pos volume)) }
+    ensures said { IfOk result (λ volume. column row.now 0 ≡ Int (pos volume)) }
+    ensures told { IsTold (ShowsVolume row.now) result }
 {
     match Volume::of(number(row, 0)?) {
         Some(volume) => Ok(volume),
@@ -21,10 +23,11 @@ fn volume_in(row: &Row) -> Result<Volume, RowFault>
 
 /// The volumes that rows say in their first column, in turn.
 ///
-/// `Wrong` where a row says none from 1 to `LAST_VOLUME`, as no row of a store does; `Memory` where
-/// there is none for the volumes.
+/// Never `Wrong` where each says one from 1 to `LAST_VOLUME`, as a store's do; `Memory` where there
+/// is none for the volumes.
 pub fn volumes_in(alloc: Global, rows: &[Row]) -> Result<Vec<Volume>, RowFault>
-    ensures { IfOk result (λ volumes. SayVolumes rows.now volumes.items) }
+    ensures said { IfOk result (λ volumes. SayVolumes rows.now volumes.items) }
+    ensures told { IsToldOrMemory (Each ShowsVolume rows.now) result }
 {
     let mut volumes = Vec::new(alloc);
     for row in rows {

@@ -18,7 +18,7 @@ use Rattle.gaz_kept.specs.Opening.{IsOf}
 use Rattle.gaz_kept.specs.Rewriting.{Registers}
 use Rattle.gaz_kept.proofs.Rewritten.{rewrites_stand}
 use Rattle.gaz_calls.specs.Altering.{Alters, AltersTables}
-use Rattle.gaz_calls.specs.Asking.{Asks, AsksTables, IsAnyway}
+use Rattle.gaz_calls.specs.Asking.{Asks, AsksTablesOf, IsAnyway}
 use Rattle.gaz_calls.specs.Growing.{TellsRegisters, TellsWhose, as_keeper, of_keeper}
 use Rattle.gaz_calls.specs.Seen.{IsUnharmed}
 use Rattle.gaz_calls.specs.declared.tables.Tables.{Tables}
@@ -30,7 +30,7 @@ module _ {S : Type 0} {g : Ghosts S} where
   at t = state g t.conn
 
   -- what is written once it is known
-  pub alters_after : {A B : Type 0} (old mid new : Tables S g) (one : Result A ShelfFault) (r : Result B ShelfFault) (text : List ℕ) → AsksTables old mid one IsAnyway → AltersTables mid new r (Registers text) → AltersTables old new r (Registers text)
+  pub alters_after : {IsSo : Database → Type 0} {A B : Type 0} (old mid new : Tables S g) (one : Result A ShelfFault) (r : Result B ShelfFault) (text : List ℕ) → AsksTablesOf IsSo old mid one IsAnyway → AltersTables mid new r (Registers text) → AltersTables old new r (Registers text)
   alters_after old mid new one r text asks alters = record {
     alters = alters_then (at old) (at mid) (at new) one r IsAnyway (Registers text) (Registers text) asks.asks alters.alters (λ h db is. is);
     tallies = tallies_then old.failures mid.failures new.failures one r asks.tallies alters.tallies;

@@ -1,6 +1,7 @@
 -- What a call tells that answers from what is at hand, or has an answer at hand then.
 use Rattle.std.proofs.Common.{◌≡◌, ◌≢◌, ◌∙◌, inl, inr, ℕ, List, Result, Ok, Err, IfOk, arith, refl, sym, subst}
 use Rattle.std.proofs.lemmas.Bool.{cases_eq}
+use Rattle.std.proofs.lemmas.Result.{IfErr-at_err}
 use Rattle.std.specs.Prelude.{Option, Some, None, IfSome}
 use Rattle.std.specs.BTreeMap.{get}
 use Rattle.std.specs.Ordering.{nat_cmp}
@@ -11,6 +12,7 @@ use Rattle.sqlite.specs.State.{State}
 use Rattle.sqlite_trees.specs.declared.store.Store.{Ghosts}
 use Rattle.gaz_keeper.specs.Board.{reached}
 use Rattle.gaz_keeper.specs.declared.fault.ShelfFault.{ShelfFault}
+use Rattle.gaz_keeper.specs.declared.fault.ShelfFault.TheVariants.{Store}
 use Rattle.gaz_tables.specs.Schema.{received, version2}
 use Rattle.gaz_tables.specs.Tables.{rows_of}
 use Rattle.gaz_kept.specs.Contents.{board_of}
@@ -48,6 +50,7 @@ module _ {S : Type 0} {store : Ghosts S} where
   at_hand_already t c h is = record {
     asks = asks_nothing (at t) (Ok h) (λ db x. AreSo t.at_hand (rows_of db received) → IsSo (rows_of db received) c x)
         (λ u kept so. if_some_at (get nat_cmp t.at_hand c) h (IsSo (rows_of (at t).now received) c) (sym is) (so c));
+    served = λ quiet kept so. tt;
     tallies = record { kept = omega arith; store = tt };
     at_hand = λ u kept so. so;
   }
@@ -56,6 +59,7 @@ module _ {S : Type 0} {store : Ghosts S} where
   pub recalls_asked : {T : Type 0} (old new : Tables S store) (r : Result T ShelfFault) (R : Database → T → Type 0) → AsksTables old new r R → Recalls old new r R
   recalls_asked {T} old new r R asks = record {
     asks = asks_as (at old) (at new) r r R (λ db x. AreSo old.at_hand (rows_of db received) → R db x) asks.asks (λ db kept. anyway db r);
+    served = asks.served;
     tallies = asks.tallies;
     at_hand = λ u kept so. subst (λ (m : Remembered). AreSo m (rows_of (at old).now received)) (sym asks.at_hand) so;
   }
@@ -70,6 +74,7 @@ module _ {S : Type 0} {store : Ghosts S} where
   recalls_more {A} {B} old mid new one two a P Q R before is after goes = record {
     asks = asks_then (at old) (at mid) (at new) one two two (λ db y. AreSo old.at_hand (rows_of db received) → P db y) Q (λ db y. AreSo old.at_hand (rows_of db received) → R db y) before.asks after.asks
         (λ db kept was now. by_result db kept (subst (λ (r : Result A ShelfFault). IfOk r (λ y. AreSo old.at_hand (rows_of db received) → P db y)) is was) two now);
+    served = λ quiet kept so. after.served quiet (subst IsKept (sym (before.asks.rests (after.asks.harm quiet.unharmed) kept.tables)) kept) tt;
     tallies = tallies_then old.failures mid.failures new.failures one two before.tallies after.tallies;
     at_hand = λ u kept so. subst (λ (m : Remembered). AreSo m (rows_of (at old).now received)) (sym after.at_hand) (before.at_hand (after.asks.harm u) kept so);
   }
@@ -83,6 +88,7 @@ module _ {S : Type 0} {store : Ghosts S} where
       → Recalls old new two Q → two ≡ Err e → Recalls old new (Err e) R
   recalls_fault {B} {T} old new two e Q R recalls is = record {
     asks = asks_as (at old) (at new) two (Err e) (λ db y. AreSo old.at_hand (rows_of db received) → Q db y) (λ db (y : T). AreSo old.at_hand (rows_of db received) → R db y) recalls.asks (λ db kept was. tt);
+    served = λ quiet kept so. IfErr-at_err (λ f. f ≢ Store) is (recalls.served quiet kept so);
     tallies = record { kept = recalls.tallies.kept; store = (subst (λ (r : Result B ShelfFault). Tallies old.failures new.failures r) is recalls.tallies).store };
     at_hand = recalls.at_hand;
   }
@@ -97,6 +103,7 @@ module _ {S : Type 0} {store : Ghosts S} where
     asks = subst (λ t. Asks (at old) (state store t) (Ok x) (λ db y. AreSo old.at_hand (rows_of db received) → R db y)) (sym conn)
         (asks_as (at old) (at mid) one (Ok x) (λ db y. AreSo old.at_hand (rows_of db received) → P db y) (λ db y. AreSo old.at_hand (rows_of db received) → R db y) before.asks
         (λ db kept was so. (goes db kept (told db was so)).1));
+    served = λ quiet kept so. tt;
     tallies = subst (λ (n : ℕ). Tallies old.failures n (Ok x)) (sym failures) (record { kept = before.tallies.kept; store = tt });
     at_hand = λ u kept so.
         let v = subst (λ t. IsUnharmed (state store t)) conn u in
@@ -112,6 +119,7 @@ module _ {S : Type 0} {store : Ghosts S} where
   recalled {A} {T} old new one a x P R recalls is goes = record {
     asks = asks_as (at old) (at new) one (Ok x) (λ db y. AreSo old.at_hand (rows_of db received) → P db y) (λ db y. AreSo old.at_hand (rows_of db received) → R db y) recalls.asks
         (λ db kept was so. goes db kept (subst (λ (r : Result A ShelfFault). IfOk r (λ y. AreSo old.at_hand (rows_of db received) → P db y)) is was so));
+    served = λ quiet kept so. tt;
     tallies = record { kept = recalls.tallies.kept; store = tt };
     at_hand = recalls.at_hand;
   }

@@ -21,7 +21,7 @@ use Rattle.gaz_kept.specs.Stands.{next_in}
 use Rattle.gaz_kept.proofs.Boards.{board_reads}
 use Rattle.gaz_kept.proofs.Stands.{judges}
 use Rattle.gaz_calls.specs.Altering.{Alters, AltersTables, Writes}
-use Rattle.gaz_calls.specs.Asking.{Asks, Fails, Recalls, Tallies}
+use Rattle.gaz_calls.specs.Asking.{Asks, Fails, IsAny, IsServed, Recalls, Tallies}
 use Rattle.gaz_calls.specs.Remembered.{AreSo, OneJudged, OneMore, Recounts, Remembered}
 use Rattle.gaz_calls.specs.Seen.{IsUnharmed}
 use Rattle.gaz_calls.specs.Writing.{Comes, IsNewIn, IsNextIn, WhereSo}
@@ -151,6 +151,7 @@ module _ {S : Type 0} {store : Ghosts S} where
       writes_not {T = T} old new one e P IsAsked Becomes
       (record {
         asks = subst (λ h. Asks (at old) (state store h) one (λ db x. AreSo old.at_hand (rows_of db received) → P db x)) (sym fails.conn) recalls.asks;
+        served = subst (λ h. IsServed IsAny (at old) (state store h) one) (sym fails.conn) recalls.served;
         tallies = record { kept = omega (arith, recalls.tallies.kept, fails.kept); store = later one recalls.tallies.store };
         at_hand = λ h kept so. subst (λ (m : Remembered). AreSo m (rows_of (at old).now received)) (sym fails.at_hand) (recalls.at_hand (subst (λ h. IsUnharmed (state store h)) fails.conn h) kept so);
       })

@@ -1,19 +1,23 @@
 -- What a call that asks the tables tells of them as they are seen.
-use Rattle.std.proofs.Common.{◌≡◌, ◌<◌, ◌⊎◌, ◌∙◌, inl, inr, ℕ, Result, Ok, Err, IfErr, IfOk, OnErr, OnOk, arith, refl, sym, subst}
-use Rattle.std.specs.Prelude.{⊤, IsTrue}
+use Rattle.std.proofs.Common.{◌≡◌, ◌<◌, ◌⊎◌, ◌∙◌, inl, inr, ℕ, true≢false, Result, Ok, Err, IfErr, IfOk, OnErr, OnOk, ap, arith, refl, sym, subst}
+use Rattle.std.specs.Prelude.{⊤, IsSome, IsTrue}
 use Rattle.std.proofs.lemmas.Bool.{cases_eq}
+use Rattle.std.proofs.lemmas.Result.{IfErr-weaker}
 use Rattle.sqlite.specs.Effect.{Database}
 use Rattle.sqlite.specs.declared.error.Error.{Error}
+use Rattle.sqlite.specs.declared.error.Error.TheVariants.{SqliteFailure}
+use Rattle.sqlite.specs.declared.error.ErrorCode.TheVariants.{OutOfMemory}
 use Rattle.sqlite.specs.State.{HasCleanDisk, IsUnchanged, State, Survives}
 use Rattle.sqlite.proofs.StateLemmas.{survives_then}
 use Rattle.sqlite_trees.specs.View.{doubt}
 use Rattle.gaz_keeper.specs.declared.fault.ShelfFault.{ShelfFault}
-use Rattle.gaz_keeper.specs.declared.fault.ShelfFault.TheVariants.{Store}
+use Rattle.gaz_keeper.specs.declared.fault.ShelfFault.TheVariants.{Memory, Store}
 use Rattle.gaz_sql_facts.specs.Changes.{IsSpared}
+use Rattle.gaz_sql_facts.specs.Reasons.{HasReason}
 use Rattle.gaz_tables.specs.Stores.{HasTables}
-use Rattle.gaz_calls.specs.Asking.{Asks, Tallies}
+use Rattle.gaz_calls.specs.Asking.{Asks, IsNoFailure, Tallies}
 use Rattle.gaz_kept.specs.Kept.{IsKept}
-use Rattle.gaz_calls.specs.Seen.{IsUnharmed}
+use Rattle.gaz_calls.specs.Seen.{IsQuiet, IsUnharmed}
 use Rattle.gaz_kept.specs.Opening.{IsSettled}
 
 -- ---- what was asked
@@ -31,10 +35,6 @@ survives_still s = record {
 if_ok_any : {T E : Type 0} (r : Result T E) (P : T → Type 0) → ((x : T) → P x) → IfOk r P
 if_ok_any (Ok x) P all = all x
 if_ok_any (Err e) P all = tt
-
-if_ok_map : {T E : Type 0} (r : Result T E) (P Q : T → Type 0) → ((x : T) → P x → Q x) → IfOk r P → IfOk r Q
-if_ok_map (Ok x) P Q f h = f x h
-if_ok_map (Err e) P Q f h = tt
 
 -- an answer without asking
 pub asks_nothing : {T : Type 0} (s : State) (r : Result T ShelfFault) (P : Database → T → Type 0) → (IsUnharmed s → IsKept s.now → IfOk r (P s.now)) → Asks s s r P
@@ -83,6 +83,38 @@ tallies_then {A} {T} first second last one r before after = record { kept = omeg
     by_result : (r : Result T ShelfFault) → IfErr r (λ e. e ≡ Store → second < last) → IfErr r (λ e. e ≡ Store → first < last)
     by_result (Ok x) s = tt
     by_result (Err e) s = λ is. let more = s is in omega (arith, before.kept)
+
+-- ---- what has no reason to fail
+
+-- nothing had failed before
+pub quiet_before : (old new : State) → Survives old new (λ _. ⊥) → (IsUnharmed new → IsUnharmed old) → IsQuiet new → IsQuiet old
+quiet_before old new s harm quiet = let counts = s.counts in let none = quiet.faultless in record {
+  unharmed = harm quiet.unharmed;
+  faultless = omega (arith, counts, none);
+  unlimited = sym s.limit ∙ quiet.unlimited;
+}
+
+-- a call that asks left it so
+pub quiet_asked : {T : Type 0} (old new : State) (r : Result T ShelfFault) (P : Database → T → Type 0) → Asks old new r P → HasTables old.now → IsQuiet new → IsQuiet old
+quiet_asked old new r P asks has quiet = quiet_before old new (asks.leaves (λ h. has)) asks.harm quiet
+
+-- what is asked of a connection where nothing fails can but want memory
+pub reason_is : (old new : State) → Survives old new (λ _. ⊥) → IsTrue old.is_open → IsQuiet new → (e : Error) → HasReason old new e → e ≡ SqliteFailure OutOfMemory
+reason_is old new s is_open quiet e (inl want) = want
+reason_is old new s is_open quiet e (inr (inl more)) = absurd (let none = quiet.faultless in omega (arith, more, none))
+reason_is old new s is_open quiet e (inr (inr (inl shut))) = absurd (true≢false (sym is_open ∙ shut))
+reason_is old new s is_open quiet e (inr (inr (inr limited))) = absurd (true≢false (sym (subst IsSome (sym s.limit ∙ quiet.unlimited) limited)))
+
+-- an error that is want of memory is told as that
+pub wants : {A T E : Type 0} (answer : Result A E) (want : E) (result : Result T ShelfFault) → OnErr result (OnOk answer ⊥) → (answer ≡ Err want → result ≡ Err Memory) → IfErr answer (λ e. e ≡ want) → IsNoFailure result
+wants answer want (Ok x) fault memory is = tt
+wants (Ok x) want (Err e) fault memory is = absurd fault
+wants {T = T} (Err f) want (Err e) fault memory is = λ store. let same : ◌≡◌ {A = Result T ShelfFault} (Err Store) (Err Memory) = sym (ap Err store) ∙ memory (ap Err is) in absurd (cc)
+
+pub query_served : {A T : Type 0} (old new : State) (answer : Result A Error) (result : Result T ShelfFault) → Survives old new (λ _. ⊥) → IsTrue old.is_open → IsQuiet new
+    → IfErr answer (HasReason old new) → OnErr result (OnOk answer ⊥) → (answer ≡ Err (SqliteFailure OutOfMemory) → result ≡ Err Memory) → IsNoFailure result
+query_served old new answer result s is_open quiet reason fault memory =
+    wants answer (SqliteFailure OutOfMemory) result fault memory (IfErr-weaker answer (HasReason old new) (λ e. e ≡ SqliteFailure OutOfMemory) (reason_is old new s is_open quiet) reason)
 
 -- ---- a query
 

@@ -27,6 +27,7 @@ use Rattle.gaz_keeper.specs.Board.{Board, Judgement, reached, verdict_on}
 use Rattle.gaz_keeper.specs.Received.{count_above}
 use Rattle.gaz_sql_facts.proofs.Lists.{has_permuted, permuted_has}
 use Rattle.gaz_tables.specs.Receiveds.{FindsAbove, IsAbove, bytes_of, volume_of, volume_shown}
+use Rattle.std.proofs.lemmas.Bool.{and_parts}
 use Rattle.gaz_tables.specs.Schema.{received, version2}
 use Rattle.gaz_tables.specs.Tables.{rows_of}
 use Rattle.gaz_row_items.specs.Versions.{number_in}
@@ -128,6 +129,23 @@ module _ (c v most : ℕ) (rows answer : List Row) (are : AreFiles rows) (found 
       short =
           let shown = ap length found.page.shown ∙ length-map (take most chosen) volume_shown ∙ length-take most chosen in
           omega (arith, shown, few)
+
+-- none waits behind the last volume
+pub none_beyond : (db : Database) → IsKept db → (c v : ℕ) → 999_999 < v → 0 ≡ count_above (files_in (rows_of db received)) c v
+unfolding IsDistinct
+none_beyond db kept c v late = sym (counts (files_in (rows_of db received)) c v [] tt none)
+  where
+    by_test : (q : ℕ × ℕ) (b : Bool) → waits (files_in (rows_of db received)) c v q ≡ b → false ≡ waits (files_in (rows_of db received)) c v q
+    by_test q false is = sym is
+    by_test q true is =
+        let parts = and_parts _ _ is in
+        let r = row_of (rows_of db received) (are_files db kept) q.0 q.1 parts.0 in
+        let last = (kept.files r.row r.there).last in
+        let volume : volume_in r.row ≡ q.1 = ap number_in r.is.of_volume in
+        absurd (omega (arith, late, last, volume, (above_is c v q.0 q.1 parts.1).1))
+
+    none : (q : ℕ × ℕ) → is_member same [] q ≡ waits (files_in (rows_of db received)) c v q
+    none q = by_test q (waits (files_in (rows_of db received)) c v q) refl
 
 -- ---- what is judged
 

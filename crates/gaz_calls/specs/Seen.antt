@@ -1,5 +1,5 @@
 -- What the tables of a store stand for, and what a crash may leave of them.
-use Rattle.std.specs.Prelude.{◌≡◌, ◌≤◌, ◌-◌, ◌^◌, ◌==◌, ℕ, List, true, IsTrue}
+use Rattle.std.specs.Prelude.{◌≡◌, ◌≤◌, ◌-◌, ◌^◌, ◌==◌, ℕ, List, None, true, IsTrue}
 use Rattle.std.proofs.Common.{eqb-true, le_of_eq, subst, sym}
 use Rattle.sqlite_trees.specs.Tree.{Trees}
 use Rattle.sqlite.specs.Effect.{Database, IsDatabase}
@@ -30,6 +30,13 @@ pub record StandsFor (register : List ℕ) (s : State) (at_hand : Remembered) (w
 pub record IsUnharmed (s : State) : Type 0 where
   pub clean : HasCleanDisk s
   pub is_open : IsTrue s.is_open
+
+-- nothing of what it stands on has failed: the disk never did, nobody shut the connection, and its
+-- steps aren't limited
+pub record IsQuiet (s : State) : Type 0 where
+  pub unharmed : IsUnharmed s
+  pub faultless : s.faults ≡ 0
+  pub unlimited : s.step_limit ≡ None
 
 -- what a crash may leave: what a sound database stands for whose trees it may leave, said of a disk
 -- that returns what was written

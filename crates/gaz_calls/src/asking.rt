@@ -28,7 +28,9 @@ impl<S: Alter> Tables<S> {
 
     /// The fault that an error of the connection is.
     pub(crate) fn fault(&mut self, error: Error) -> ShelfFault
-        ensures { Fails self.old self.new result }
+        ensures fails { Fails self.old self.new result }
+        ensures memory { error ≡ Error.SqliteFailure ErrorCode.OutOfMemory
+            → result ≡ ShelfFault.Memory }
     {
         match error {
             Error::SqliteFailure(ErrorCode::OutOfMemory) => ShelfFault::Memory,
@@ -73,7 +75,8 @@ impl<S: Alter> Tables<S> {
     pub(crate) fn told<T>(&mut self, answer: Result<T, Error>) -> Result<T, ShelfFault>
         requires { HasCleanDisk (state S.Store self.old.conn)
             → OnOk answer (IsTrue (state S.Store self.old.conn).is_open) }
-        ensures tells { Tells self.old self.new answer result }
+        ensures tells { Tells (Error.SqliteFailure ErrorCode.OutOfMemory)
+            self.old self.new answer result }
         ensures sure { OnOk result (self.new.sure ≡ true) }
     {
         match answer {
@@ -88,7 +91,7 @@ impl<S: Alter> Tables<S> {
     /// What was read off rows. Where one can't be read it is none that a store writes, which counts
     /// as a failure.
     pub(crate) fn read<T>(&mut self, read: Result<T, RowFault>) -> Result<T, ShelfFault>
-        ensures { Tells self.old self.new read result }
+        ensures { Tells RowFault.Memory self.old self.new read result }
     {
         match read {
             Ok(found) => Ok(found),

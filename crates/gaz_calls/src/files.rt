@@ -62,9 +62,6 @@ impl<S: Alter> Tables<S> {
             ≡ map.get (files_in (rows_of db received)) (code, volume)) }
     {
         let rows = self.file_rows(code, volume)?;
-        match first_bytes(&rows) {
-            Ok(bytes) => Ok(bytes),
-            Err(error) => Err(self.fault(error)),
-        }
+        self.read(first_bytes(&rows))
     }
 }

@@ -5,7 +5,7 @@ ghost use Rattle.gaz_register.specs.Texts.{register_text};
 ghost use Rattle.gaz_kept.specs.Opening.{has_all};
 ghost use Rattle.gaz_kept.specs.Rewriting.{Registers};
 ghost use Rattle.gaz_calls.specs.Altering.{AltersTables};
-ghost use Rattle.gaz_calls.specs.Asking.{AsksTables, IsAnyway};
+ghost use Rattle.gaz_calls.specs.Asking.{AsksTablesOf, IsAnyway};
 ghost use Rattle.gaz_calls.specs.Growing.{SparesUngrown, TellsGrowth};
 ghost use Rattle.gaz_calls.specs.Growing.{TellsRegisters, TellsWhose, as_kept};
 ghost use Rattle.gaz_calls.specs.Growing.{of_growth, of_keeper};
@@ -58,7 +58,7 @@ fn of_growth(fault: GrowFault) -> ExtendFault
 impl<S: Alter> Tables<S> {
     // Whether the row of `meta` is of this register.
     fn is_of(&mut self, register: &Register) -> Result<bool, ShelfFault>
-        ensures asks { AsksTables self.old self.new result IsAnyway }
+        ensures asks { AsksTablesOf (λ _. ⊥) self.old self.new result IsAnyway }
         ensures told { TellsWhose S.Store self.old.conn self.new.conn
             (register_text register.now) result }
         ensures lacking { has_all (state S.Store self.old.conn).now.schema ≡ false

@@ -63,7 +63,8 @@ impl<S: Alter> Tables<S> {
         if rows.len() < MOST_ROWS as usize {
             return Ok(rows);
         }
-        Err(self.fail())
+        // More rows than one statement is asked for.
+        Err(ShelfFault::Memory)
     }
 
     // The first `most` items of a kind whose ids stand behind a text, in key order, after a volume.

@@ -97,7 +97,8 @@ impl<S: Alter> Tables<S> {
                 Step::Behind(id) => start = id,
             }
         }
-        Err(self.fail())
+        // More pages than can be counted.
+        Err(ShelfFault::Memory)
     }
 
     /// Whether an approved LPI is on a street, and in this language where one is given.
@@ -151,7 +152,8 @@ impl<S: Alter> Tables<S> {
                 Step::Behind(id) => start = id,
             }
         }
-        Err(self.fail())
+        // More pages than can be counted.
+        Err(ShelfFault::Memory)
     }
 
     /// Whether a BLPU is a part of this one.

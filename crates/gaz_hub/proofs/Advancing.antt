@@ -344,9 +344,3 @@ tries_stopped reg m left a b c e P Q S first second =
           let kept = first.advances.kept in
           omega arith;
     }
-
--- ---- faults passed on
-
-pub is_err : {T : Type 0} (r : Result T ShelfFault) (e : ShelfFault) → IsErrAnd r (λ x. x ≡ e) → r ≡ Err e
-is_err (Ok x) e h = absurd h
-is_err (Err f) e h = ap Err h

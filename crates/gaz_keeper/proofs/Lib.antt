@@ -1,4 +1,5 @@
 pub mod Examples
+pub mod Faults
 pub mod Keeping
 pub mod Pairs
 pub mod WorkedCalls

@@ -1,7 +1,7 @@
 -- What the tables must be for their content to be what was judged.
 use Rattle.std.specs.Prelude.{◌≡◌, ◌≢◌, ◌≤◌, ◌<◌, ◌⊎◌, ℕ, pos, true, List, IsSomeAnd, is_some}
 use Rattle.sqlite.specs.declared.types.Value.{Value}
-use Rattle.sqlite.specs.declared.types.Value.TheVariants.{Int, Text, Blob}
+use Rattle.sqlite.specs.declared.types.Value.TheVariants.{Int, Blob}
 use Rattle.sqlite.specs.Effect.{Database}
 use Rattle.sqlite.specs.Order.{Row}
 use Rattle.sqlite_rules.specs.Lists.{Has}
@@ -18,17 +18,11 @@ use Rattle.gaz_tables.specs.Stores.{HasTables}
 use Rattle.gaz_tables.specs.Versions.{blpu_of, body_of, born_of, cust_of, gone_of, hop_of, id_of}
 use Rattle.gaz_tables.specs.Versions.{kind_of, lang_of, live_of, street_of}
 use Rattle.gaz_tables.specs.Tables.{rows_of}
-use Rattle.gaz_row_items.specs.Versions.{custody_cells_in, histories_in, item_in, number_in}
-use Rattle.gaz_row_items.specs.Versions.{passages_in, text_in}
+use Rattle.gaz_row_items.specs.Versions.{IsText, IsWhole, custody_cells_in, histories_in, item_in}
+use Rattle.gaz_row_items.specs.Versions.{number_in, passages_in}
 use Rattle.gaz_kept.specs.Files.{bytes_in, judged_volumes, reached_in, volume_in}
 
 -- ---- values
-
-abbrev pub IsWhole : Value → Type 0
-IsWhole v = v ≡ Int (pos (number_in v))
-
-abbrev pub IsText : Value → Type 0
-IsText v = v ≡ Text (text_in v)
 
 abbrev pub IsBytes : Value → Type 0
 IsBytes v = v ≡ Blob (bytes_in v)

@@ -78,30 +78,30 @@ record InFull (text : List ℕ) (n : ℕ) : Type 0 where
   range : in_range 1 999_999_999_999 n ≡ true
 
 -- what a text that is read says
-record Reads (text : List ℕ) (n : ℕ) : Type 0 where
-  all : all_ascii_digits text ≡ true
-  range : in_range 1 999_999_999_999 n ≡ true
-  value : digits_value 10 text ≡ n
+pub record Reads (high : ℕ) (text : List ℕ) (n : ℕ) : Type 0 where
+  pub all : all_ascii_digits text ≡ true
+  pub range : in_range 1 high n ≡ true
+  pub value : digits_value 10 text ≡ n
 
-reads : (text : List ℕ) (n : ℕ) → result_ok (read_id 12 1 999_999_999_999 text) ≡ Some n → Reads text n
+pub reads : (width high : ℕ) (text : List ℕ) (n : ℕ) → result_ok (read_id width 1 high text) ≡ Some n → Reads high text n
 unfolding read_id
-reads text n is = by_empty (length text == 0) is
+reads width high text n is = by_empty (length text == 0) is
   where
-    by_range : all_ascii_digits text ≡ true → (b : Bool) → in_range 1 999_999_999_999 (digits_value 10 text) ≡ b → result_ok (cond (not b) (Err OutOfRange) (Ok (digits_value 10 text))) ≡ Some n → Reads text n
+    by_range : all_ascii_digits text ≡ true → (b : Bool) → in_range 1 high (digits_value 10 text) ≡ b → result_ok (cond (not b) (Err OutOfRange) (Ok (digits_value 10 text))) ≡ Some n → Reads high text n
     by_range all true range e =
         let same : digits_value 10 text ≡ n = cc in
-        record { all = all; range = subst (λ m. in_range 1 999_999_999_999 m ≡ true) same range; value = same }
+        record { all = all; range = subst (λ m. in_range 1 high m ≡ true) same range; value = same }
     by_range all false range e = no_answer e refl
 
-    by_width : all_ascii_digits text ≡ true → (b : Bool) → result_ok (cond b (Err TooLong) (cond (not (in_range 1 999_999_999_999 (digits_value 10 text))) (Err OutOfRange) (Ok (digits_value 10 text)))) ≡ Some n → Reads text n
+    by_width : all_ascii_digits text ≡ true → (b : Bool) → result_ok (cond b (Err TooLong) (cond (not (in_range 1 high (digits_value 10 text))) (Err OutOfRange) (Ok (digits_value 10 text)))) ≡ Some n → Reads high text n
     by_width all true e = no_answer e refl
-    by_width all false e = by_range all (in_range 1 999_999_999_999 (digits_value 10 text)) refl e
+    by_width all false e = by_range all (in_range 1 high (digits_value 10 text)) refl e
 
-    by_digits : (b : Bool) → all_ascii_digits text ≡ b → result_ok (cond (not b) (Err NotDigits) (cond (nat_lt 12 (length text)) (Err TooLong) (cond (not (in_range 1 999_999_999_999 (digits_value 10 text))) (Err OutOfRange) (Ok (digits_value 10 text))))) ≡ Some n → Reads text n
-    by_digits true all e = by_width all (nat_lt 12 (length text)) e
+    by_digits : (b : Bool) → all_ascii_digits text ≡ b → result_ok (cond (not b) (Err NotDigits) (cond (nat_lt width (length text)) (Err TooLong) (cond (not (in_range 1 high (digits_value 10 text))) (Err OutOfRange) (Ok (digits_value 10 text))))) ≡ Some n → Reads high text n
+    by_digits true all e = by_width all (nat_lt width (length text)) e
     by_digits false all e = no_answer e refl
 
-    by_empty : (b : Bool) → result_ok (cond b (Err Empty) (cond (not (all_ascii_digits text)) (Err NotDigits) (cond (nat_lt 12 (length text)) (Err TooLong) (cond (not (in_range 1 999_999_999_999 (digits_value 10 text))) (Err OutOfRange) (Ok (digits_value 10 text)))))) ≡ Some n → Reads text n
+    by_empty : (b : Bool) → result_ok (cond b (Err Empty) (cond (not (all_ascii_digits text)) (Err NotDigits) (cond (nat_lt width (length text)) (Err TooLong) (cond (not (in_range 1 high (digits_value 10 text))) (Err OutOfRange) (Ok (digits_value 10 text)))))) ≡ Some n → Reads high text n
     by_empty true e = no_answer e refl
     by_empty false e = by_digits (all_ascii_digits text) refl e
 
@@ -110,7 +110,7 @@ in_full text n is = by_size (length text == 12) refl is
   where
     by_size : (b : Bool) → (length text == 12) ≡ b → cond b (result_ok (read_id 12 1 999_999_999_999 text)) None ≡ Some n → InFull text n
     by_size true size e =
-        let r = reads text n e in
+        let r = reads 12 999_999_999_999 text n e in
         record { is = ap (digits_in 12) (sym r.value) ∙ digits_again 12 text (eqb-true (length text) 12 size) r.all; range = r.range }
     by_size false size e = no_answer e refl
 

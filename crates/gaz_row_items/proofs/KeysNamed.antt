@@ -1,5 +1,5 @@
 -- The keys that rows name, in order.
-use Rattle.std.proofs.Common.{◌≡◌, ◌∙◌, ◌<◌, ℕ, List, map, length, get_or, sym, ap, subst}
+use Rattle.std.proofs.Common.{◌≡◌, ◌∙◌, ◌<◌, ℕ, List, [], ◌∷◌, inl, map, length, get_or, refl, sym, ap, subst}
 use Rattle.std.specs.Prelude.{Option, Some, Result, Ok, Err, IfOk}
 use Rattle.std.specs.List.Sorted.{IsStrictlySortedBy}
 use Rattle.sqlite.specs.Order.{Row, column}
@@ -15,10 +15,11 @@ use Rattle.gaz_records.specs.declared.item.Kind.TheVariants as kind
 use Rattle.gaz_records.specs.declared.key.Key.{Key}
 use Rattle.gaz_cells.specs.Ids.{key_named}
 use Rattle.gaz_overlay.specs.Questions.{in_order}
-use Rattle.gaz_row_items.specs.Addresses.{Names, SaysAddress, SaysFirst, SaysKeys, SaysLeast}
-use Rattle.gaz_row_items.specs.Decoding.{IsItemAt}
+use Rattle.gaz_row_items.specs.Addresses.{Names, NamesAddress, SaysAddress, SaysFirst, SaysKeys, SaysLeast, ShowsFirst}
+use Rattle.gaz_row_items.specs.Decoding.{Each, IsItemAt, ShowsItem}
 use Rattle.gaz_row_items.specs.Versions.{text_in}
 use Rattle.gaz_row_items.proofs.Pairs.{has_tied, ties_has}
+use Rattle.gaz_row_items.proofs.Told.{shown_key}
 
 abbrev named_in : Row → Option Key
 named_in r = key_named kind.Lpi (text_in (column r 0))
@@ -49,3 +50,14 @@ address_at rows k q r at (Ok x) within is named same item = record { row = r; th
 pub least_of : {E : Type 0} (rows : List Row) (keys : List Key) (found : Result (Option Item) E) → SaysKeys rows keys → IfOk found (SaysFirst rows keys) → IfOk found (SaysLeast rows)
 least_of rows keys (Err e) said first = tt
 least_of rows keys (Ok x) said first = record { keys = keys; said = said; first = first }
+
+-- ---- as a store writes them
+
+pub named_shown : (rows : List Row) → Each (ShowsItem kind.Lpi) rows → Each NamesAddress rows
+named_shown rows each r there = shown_key kind.Lpi r (each r there)
+
+pub first_shown : (rows : List Row) (keys : List Key) → SaysKeys rows keys → Each (ShowsItem kind.Lpi) rows → ShowsFirst rows keys
+first_shown rows [] said each = tt
+first_shown rows (k ∷ keys) said each =
+    let r = said.only k (inl refl) in
+    record { each = each; row = r.0; there = r.1; named = r.2 }

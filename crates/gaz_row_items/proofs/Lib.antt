@@ -1,5 +1,6 @@
 pub mod Pairs
 pub mod Decoded
+pub mod Told
 pub mod Said
 pub mod Unsaid
 pub mod CustodyFollows

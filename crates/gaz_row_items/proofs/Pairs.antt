@@ -47,7 +47,7 @@ module _ {K : Type 0} {R : K → K → Ordering} (o : IsTotalOrder R) (same : Is
   tied : (q k : K) → eq_by_cmp R q k ≡ true → q ≡ k
   tied q k e = same q k (is_equal _ e)
 
-  ties : (q k : K) → q ≡ k → eq_by_cmp R q k ≡ true
+  pub ties : (q k : K) → q ≡ k → eq_by_cmp R q k ≡ true
   ties q k is = subst (λ x. eq_by_cmp R q x ≡ true) is (ap is_eq (tied_itself o q))
 
   module _ {X : Type 0} where

@@ -1,5 +1,5 @@
 -- What the rows of addresses say, of id and body.
-use Rattle.std.specs.Prelude.{◌≡◌, List, [], ◌∷◌, Option, Some, None}
+use Rattle.std.specs.Prelude.{◌≡◌, ⊤, List, [], ◌∷◌, Option, Some, None}
 use Rattle.std.specs.List.Sorted.{IsStrictlySortedBy}
 use Rattle.sqlite.specs.Order.{Row, column}
 use Rattle.sqlite_rules.specs.Lists.{Has}
@@ -8,7 +8,7 @@ use Rattle.gaz_records.specs.declared.item.Item.{Item}
 use Rattle.gaz_records.specs.declared.item.Kind.TheVariants as kind
 use Rattle.gaz_records.specs.declared.key.Key.{Key}
 use Rattle.gaz_cells.specs.Ids.{key_named}
-use Rattle.gaz_row_items.specs.Decoding.{IsItemAt}
+use Rattle.gaz_row_items.specs.Decoding.{Each, IsItemAt, NamesKey, ShowsItem}
 use Rattle.gaz_row_items.specs.Versions.{text_in}
 
 -- the row's id names the key of an address
@@ -39,3 +39,21 @@ pub record SaysLeast (rows : List Row) (x : Option Item) : Type 0 where
   pub keys : List Key
   pub said : SaysKeys rows keys
   pub first : SaysFirst rows keys x
+
+-- ---- as a store writes them
+
+-- the row's id names the key of some address
+abbrev pub NamesAddress : Row → Type 0
+NamesAddress r = NamesKey kind.Lpi r 0
+
+-- each row says an address, and one of them names the key
+pub record ShowsAddress (rows : List Row) (k : Key) : Type 0 where
+  pub each : Each (ShowsItem kind.Lpi) rows
+  pub row : Row
+  pub there : Has rows row
+  pub named : Names row k
+
+-- each row says an address, and one of them names the first key, where there is a key
+abbrev pub ShowsFirst : List Row → List Key → Type 0
+ShowsFirst rows [] = ⊤
+ShowsFirst rows (k ∷ keys) = ShowsAddress rows k

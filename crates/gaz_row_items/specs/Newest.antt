@@ -29,6 +29,16 @@ SaysNewest k [] life = life ≡ None
 SaysNewest k (r ∷ rows) None = ⊥
 SaysNewest k (r ∷ rows) (Some life) = SaysLife k r life
 
+-- ---- as a store writes them
+
+-- a row of born, gone and body says some life at a key
+abbrev pub HasLife : Key → Row → Type 0
+HasLife k r = (life : Life) × SaysLife k r life
+
+-- the first row says one, or there is no row
+abbrev pub HasNewest : Key → List Row → Type 0
+HasNewest k rows = (life : Option Life) × SaysNewest k rows life
+
 -- ---- what it is of the histories
 
 -- of the rows of a key that pass, this was born last
@@ -82,6 +92,10 @@ abbrev pub SaysStood : List Row → Stood → Type 0
 SaysStood [] stood = stood ≡ NoRow
 SaysStood (r ∷ rows) stood = (born : ℕ) × (gone : ℕ) × (column r 0 ≡ Int (pos born))
     × (column r 1 ≡ Int (pos gone)) × (stood ≡ stood_of born gone)
+
+-- it says what stands at its key, or there is no row
+abbrev pub HasStood : List Row → Type 0
+HasStood rows = (stood : Stood) × SaysStood rows stood
 
 -- what stands at a key of a last view, and the item there
 pub record TellsStood (rows : List HistoryRow) (last : View) (k : Key) (stood : Stood)

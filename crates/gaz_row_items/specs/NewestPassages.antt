@@ -1,6 +1,6 @@
 -- What a query for a number's newest passage tells.
 use Rattle.std.specs.Prelude.{◌≡◌, ◌+◌, ℕ, pos, List, [], ◌∷◌, Option, Some, None}
-use Rattle.std.specs.Prelude.{option_map}
+use Rattle.std.specs.Prelude.{option_map, is_some, true}
 use Rattle.sqlite.specs.declared.types.Value.TheVariants.{Int, Text}
 use Rattle.sqlite.specs.Order.{Row, column}
 use Rattle.sqlite_rules.specs.Lists.{Has}
@@ -10,7 +10,7 @@ use Rattle.gaz_views.specs.declared.custody.Custody.{Custody}
 use Rattle.gaz_cells.specs.Custody.{custody_told}
 use Rattle.gaz_overlay.specs.Passages.{PassageRow}
 use Rattle.gaz_overlay.specs.Rows.{never}
-use Rattle.gaz_row_items.specs.Versions.{number_in}
+use Rattle.gaz_row_items.specs.Versions.{IsWhole, number_in}
 use Rattle.gaz_row_items.specs.declared.passages.Passed.{Passed}
 
 -- ---- what an answer says
@@ -28,7 +28,16 @@ pub record IsBare (at : ℕ) (r : Row) : Type 0 where
   pub language : column r (at + 5) ≡ Int (pos 0)
   pub body : column r (at + 6) ≡ Text []
 
--- such a row says what became of a number, and in which volume
+-- such a row says what became of some number
+pub record ShowsPassage (at : ℕ) (r : Row) : Type 0 where
+  pub born : IsWhole (column r at)
+  pub live : IsWhole (column r (at + 2))
+  pub other : IsWhole (column r (at + 3))
+  pub hop : IsWhole (column r (at + 4))
+  pub custody : is_some (custody_shown_in at r) ≡ true
+  pub bare : IsBare at r
+
+-- such a row says this became of a number, and in which volume
 pub record SaysPassed (at : ℕ) (r : Row) (passed : Passed) : Type 0 where
   pub born : column r at ≡ Int (pos passed.born)
   pub custody : custody_shown_in at r ≡ Some passed.custody

@@ -1,5 +1,5 @@
 -- What the rows of `version2` stand for.
-use Rattle.std.specs.Prelude.{ℕ, pos, negsuc, ◌==◌, if◌then◌else◌, List, []}
+use Rattle.std.specs.Prelude.{◌≡◌, ℕ, pos, negsuc, ◌==◌, if◌then◌else◌, List, []}
 use Rattle.std.specs.Prelude.{Option, None, option_map}
 use Rattle.std.specs.Result.{result_ok}
 use Rattle.std.specs.List.{filter_map}
@@ -36,6 +36,14 @@ text_in Null = []
 text_in (Int n) = []
 text_in (Real x) = []
 text_in (Blob b) = []
+
+-- the value is a whole number
+abbrev pub IsWhole : Value → Type 0
+IsWhole v = v ≡ Int (pos (number_in v))
+
+-- or a text
+abbrev pub IsText : Value → Type 0
+IsText v = v ≡ Text (text_in v)
 
 -- ---- rows
 

@@ -1,11 +1,12 @@
 //! What the cells of a found row say: keys by their ids, and items by their bodies.
-ghost use Rattle.std.specs.Prelude.{◌≡◌, ◌<◌, pos, true, IfOk, Ok, Some};
+ghost use Rattle.std.specs.Prelude.{◌≡◌, ◌↔◌, pos, true, IfOk, Ok, Err, Some};
 ghost use Rattle.sqlite.specs.Order.{column};
 ghost use Rattle.sqlite.specs.declared.types.Value.TheVariants.{Int, Text};
 ghost use Rattle.gaz_records.specs.Keys.{key_of};
 ghost use Rattle.gaz_cells.specs.Ids.{key_named, kind_in};
-ghost use Rattle.gaz_row_items.specs.Decoding.{IsBodyOf, IsItemAt};
-ghost use Rattle.gaz_row_items.specs.Versions.{text_in};
+ghost use Rattle.gaz_row_items.specs.Decoding.{Each, HasBody, HasItemAt, IsBodyOf, IsItemAt};
+ghost use Rattle.gaz_row_items.specs.Decoding.{IsTold, IsToldOrMemory, NamesKey, ReadsAt};
+ghost use Rattle.gaz_row_items.specs.Versions.{IsText, IsWhole, text_in};
 
 use gaz_cells::{Bodies, key_named};
 use gaz_records::{FieldFault, Item, Key, Kind, SharedItem, item_of_text, key_of};
@@ -37,7 +38,8 @@ pub fn kind_in(key: &Key) -> Kind
 
 /// The whole number in a column, where one stands there.
 pub fn number(row: &Row, at: usize) -> Result<u64, RowFault>
-    ensures { IfOk result (λ n. column row.now at ≡ Int (pos n)) }
+    ensures said { IfOk result (λ n. column row.now at ≡ Int (pos n)) }
+    ensures told { IsTold (IsWhole (column row.now at)) result }
 {
     match row.get_ref(at) {
         Ok(ValueRef::Int(n)) if n >= 0 => Ok(n as u64),
@@ -47,7 +49,8 @@ pub fn number(row: &Row, at: usize) -> Result<u64, RowFault>
 
 /// The text in a column, where one stands there.
 pub fn text(row: &Row, at: usize) -> Result<&[u8], RowFault>
-    ensures { IfOk result (λ t. column row.now at ≡ Text t.now) }
+    ensures said { IfOk result (λ t. column row.now at ≡ Text t.now) }
+    ensures told { IsTold (IsText (column row.now at)) result }
 {
     match row.get_ref(at) {
         Ok(ValueRef::Text(text)) => Ok(text),
@@ -57,7 +60,8 @@ pub fn text(row: &Row, at: usize) -> Result<&[u8], RowFault>
 
 /// The key of a kind that the id in a column names.
 pub fn key_in(kind: Kind, row: &Row, at: usize) -> Result<Key, RowFault>
-    ensures { IfOk result (λ k. key_named kind (text_in (column row.now at)) ≡ Some k) }
+    ensures said { IfOk result (λ k. key_named kind (text_in (column row.now at)) ≡ Some k) }
+    ensures told { IsTold (NamesKey kind row.now at) result }
 {
     match key_named(kind, text(row, at)?) {
         Some(key) => Ok(key),
@@ -67,14 +71,15 @@ pub fn key_in(kind: Kind, row: &Row, at: usize) -> Result<Key, RowFault>
 
 /// Whether two keys are one.
 pub(crate) fn are_one(a: &Key, b: &Key) -> bool
-    ensures { result ≡ true → a.now ≡ b.now }
+    ensures { (result ≡ true) ↔ (a.now ≡ b.now) }
 {
     a.compare(b).is_eq()
 }
 
 // An item, where it stands at the key.
 fn item_at(key: &Key, item: Item) -> Result<Item, RowFault>
-    ensures { IfOk result (λ x. (x ≡ item) × (key_of x ≡ key.now)) }
+    ensures said { IfOk result (λ x. (x ≡ item) × (key_of x ≡ key.now)) }
+    ensures told { IsTold (key_of item ≡ key.now) result }
 {
     if are_one(&key_of(&item), key) {
         Ok(item)
@@ -85,7 +90,9 @@ fn item_at(key: &Key, item: Item) -> Result<Item, RowFault>
 
 // The item that was read, where it stands at the key.
 fn read_at(key: &Key, read: Result<Item, FieldFault>) -> Result<Item, RowFault>
-    ensures { IfOk result (λ x. (read ≡ Ok x) × (key_of x ≡ key.now)) }
+    ensures said { IfOk result (λ x. (read ≡ Ok x) × (key_of x ≡ key.now)) }
+    ensures told { IsTold (ReadsAt key.now read) result }
+    ensures memory { read ≡ Err FieldFault.Memory → result ≡ Err RowFault.Memory }
 {
     match read {
         Ok(item) => item_at(key, item),
@@ -96,21 +103,24 @@ fn read_at(key: &Key, read: Result<Item, FieldFault>) -> Result<Item, RowFault>
 
 // The item of a body, where it stands at the key.
 fn item_of(alloc: Global, key: &Key, body: &[u8]) -> Result<Item, RowFault>
-    ensures { IfOk result (IsBodyOf key.now body.now) }
+    ensures said { IfOk result (IsBodyOf key.now body.now) }
+    ensures told { IsToldOrMemory (HasBody key.now body.now) result }
 {
     read_at(key, item_of_text(alloc, kind_in(key), body))
 }
 
 // The item of a body, read by a reader of many bodies, where it stands at the key.
 fn next_item(bodies: &mut Bodies<'_>, key: &Key, body: &[u8]) -> Result<Item, RowFault>
-    ensures { IfOk result (IsBodyOf key.now body.now) }
+    ensures said { IfOk result (IsBodyOf key.now body.now) }
+    ensures told { IsToldOrMemory (HasBody key.now body.now) result }
 {
     read_at(key, bodies.item(kind_in(key), body))
 }
 
 /// The item at a key that the body in a column says.
 pub fn item_in(alloc: Global, key: &Key, row: &Row, at: usize) -> Result<SharedItem, RowFault>
-    ensures { IfOk result (IsItemAt row.now at key.now) }
+    ensures said { IfOk result (IsItemAt row.now at key.now) }
+    ensures told { IsToldOrMemory (HasItemAt row.now at key.now) result }
 {
     let item = item_of(alloc, key, text(row, at)?)?;
     match SharedItem::new(alloc, item) {
@@ -127,7 +137,8 @@ pub fn next_item_in(
     row: &Row,
     at: usize,
 ) -> Result<SharedItem, RowFault>
-    ensures { IfOk result (IsItemAt row.now at key.now) }
+    ensures said { IfOk result (IsItemAt row.now at key.now) }
+    ensures told { IsToldOrMemory (HasItemAt row.now at key.now) result }
 {
     let item = next_item(bodies, key, text(row, at)?)?;
     match SharedItem::new(alloc, item) {
@@ -137,7 +148,9 @@ pub fn next_item_in(
 }
 
 /// The bodies in a column of rows, each ended by LF, as lines for one reader.
-pub fn body_lines(alloc: Global, rows: &[Row], at: usize) -> Result<Vec<u8>, RowFault> {
+pub fn body_lines(alloc: Global, rows: &[Row], at: usize) -> Result<Vec<u8>, RowFault>
+    ensures { IsToldOrMemory (Each (λ r. IsText (column r at)) rows.now) result }
+{
     let mut lines = Vec::new(alloc);
     for row in rows {
         let body = text(row, at)?;

@@ -1,5 +1,7 @@
 //! The row of a key that was born last.
 ghost use Rattle.std.specs.Prelude.{◌≡◌, IfOk};
+ghost use Rattle.gaz_row_items.specs.Decoding.{IsTold, IsToldOrMemory};
+ghost use Rattle.gaz_row_items.specs.Newest.{HasLife, HasNewest, HasStood};
 ghost use Rattle.gaz_row_items.specs.Newest.{SaysLife, SaysNewest, SaysStood, current_in};
 ghost use Rattle.gaz_row_items.specs.Newest.{item_after, stood_by, stood_of};
 
@@ -25,7 +27,8 @@ pub struct Life {
 
 // The item at a key that a row of born, gone and body says.
 fn life_in(alloc: Global, key: &Key, row: &Row) -> Result<Life, RowFault>
-    ensures { IfOk result (SaysLife key.now row.now) }
+    ensures said { IfOk result (SaysLife key.now row.now) }
+    ensures told { IsToldOrMemory (HasLife key.now row.now) result }
 {
     Ok(Life {
         born: number(row, 0)?,
@@ -36,7 +39,8 @@ fn life_in(alloc: Global, key: &Key, row: &Row) -> Result<Life, RowFault>
 
 /// What the first row says, where there is one.
 pub fn newest_said(alloc: Global, key: &Key, rows: &[Row]) -> Result<Option<Life>, RowFault>
-    ensures { IfOk result (SaysNewest key.now rows.now) }
+    ensures said { IfOk result (SaysNewest key.now rows.now) }
+    ensures told { IsToldOrMemory (HasNewest key.now rows.now) result }
 {
     match rows.first() {
         Some(row) => Ok(Some(life_in(alloc, key, row)?)),
@@ -87,7 +91,8 @@ pub fn stood_by(life: &Option<Life>) -> Stood
 
 /// What stands at the key of which the first row is the newest; its item isn't read.
 pub fn stood_said(rows: &[Row]) -> Result<Stood, RowFault>
-    ensures { IfOk result (SaysStood rows.now) }
+    ensures said { IfOk result (SaysStood rows.now) }
+    ensures told { IsTold (HasStood rows.now) result }
 {
     let Some(row) = rows.first() else {
         return Ok(Stood::NoRow);

@@ -1,7 +1,8 @@
 //! The row of kind 92 of a number that was born last.
 ghost use Rattle.std.specs.Prelude.{◌≡◌, IfOk};
-ghost use Rattle.gaz_row_items.specs.NewestPassages.{IsBare, SaysPassage, SaysPassed, born_of};
-ghost use Rattle.gaz_row_items.specs.NewestPassages.{custody_of};
+ghost use Rattle.gaz_row_items.specs.Decoding.{Each, IsTold};
+ghost use Rattle.gaz_row_items.specs.NewestPassages.{IsBare, SaysPassage, SaysPassed};
+ghost use Rattle.gaz_row_items.specs.NewestPassages.{ShowsPassage, born_of, custody_of};
 
 use crate::decoding::{RowFault, number, text};
 use gaz_cells::custody_told;
@@ -18,7 +19,8 @@ pub struct Passed {
 
 // No language and no text stand in a row from a column on, as in none of kind 92.
 fn check_bare(row: &Row, at: u8) -> Result<(), RowFault>
-    ensures { IfOk result (λ done. IsBare at row.now) }
+    ensures said { IfOk result (λ done. IsBare at row.now) }
+    ensures told { IsTold (IsBare at row.now) result }
 {
     let first = usize::from(at);
     if number(row, first + 5)? == 0 && text(row, first + 6)?.is_empty() {
@@ -30,7 +32,8 @@ fn check_bare(row: &Row, at: u8) -> Result<(), RowFault>
 
 /// What a row says from a column on, which has born, gone, live, street, hop, lang and body there.
 pub fn passed_in(row: &Row, at: u8) -> Result<Passed, RowFault>
-    ensures { IfOk result (SaysPassed at row.now) }
+    ensures said { IfOk result (SaysPassed at row.now) }
+    ensures told { IsTold (ShowsPassage at row.now) result }
 {
     check_bare(row, at)?;
     let first = usize::from(at);
@@ -44,7 +47,8 @@ pub fn passed_in(row: &Row, at: u8) -> Result<Passed, RowFault>
 
 /// What the first row says, where there is one.
 pub fn passage_said(rows: &[Row]) -> Result<Option<Passed>, RowFault>
-    ensures { IfOk result (SaysPassage rows.now) }
+    ensures said { IfOk result (SaysPassage rows.now) }
+    ensures told { IsTold (Each (ShowsPassage 0) rows.now) result }
 {
     match rows.first() {
         Some(row) => Ok(Some(passed_in(row, 0)?)),

@@ -10,6 +10,7 @@ use Rattle.gaz_changefile.specs.Reading.{Good}
 use Rattle.gaz_changefile.specs.declared.change.Basis.{Basis}
 use Rattle.gaz_changefile.specs.declared.change.Change.{Change}
 use Rattle.gaz_register.specs.Registers.{Blocks}
+use Rattle.gaz_keeper.proofs.Faults.{passed_on}
 use Rattle.gaz_keeper.specs.Board.{Judgement, last_view}
 use Rattle.gaz_views.specs.View.{View}
 use Rattle.gaz_keeper.specs.Keeper.{Content, Counts, Enters, Goes, Idle, IsAtHand, IsLeft, IsNotOpen, IsSound, Keeps, LeavesAtMost, LeavesJust, Open, Progress, Reads, Seen, after_abandon, after_begin, after_skip, after_stop, with_judgement}
@@ -169,10 +170,6 @@ phases_together old mid new c own file r is_open first second =
 
 -- ---- a judgement that is rejected
 
-is_err : {T : Type 0} (r : Result T ShelfFault) (e : ShelfFault) → IsErrAnd r (λ x. x ≡ e) → r ≡ Err e
-is_err (Ok x) e h = absurd h
-is_err (Err f) e h = ap Err h
-
 idle_stays : (p q : Progress) → p ≡ Idle → IsLeft p q → IsNotOpen q
 idle_stays p q e left = subst (λ x. IsLeft x q → IsNotOpen q) (sym e) (λ same d at. let no : Idle ≡ Open d = sym same ∙ at in cc) left
 
@@ -193,7 +190,7 @@ module _ (old mid new : Seen) (c : ℕ) (f : found.Fault) (e : ShelfFault)
 
   -- it is given up, and then the keeper fails to mark it
   pub not_rejected : (r : Result Verdict ShelfFault) → IsErrAnd r (λ x. x ≡ e) → Ends old new r c (conclusion old.content c (Some f))
-  not_rejected r is = subst (λ q. Ends old new q c (conclusion old.content c (Some f))) (sym (is_err r e is)) ends
+  not_rejected r is = subst (λ q. Ends old new q c (conclusion old.content c (Some f))) (sym (passed_on r e is)) ends
     where
       ends : Ends old new (Err e) c (conclusion old.content c (Some f))
       ends = record {

@@ -20,6 +20,7 @@ pub mod Outputs
 pub mod Parts
 pub mod Queries
 pub mod Readings
+pub mod Reasons
 pub mod SelectMoves
 pub mod Selects
 pub mod Sound

@@ -6,6 +6,7 @@ pub mod Gains
 pub mod Laws
 pub mod Making
 pub mod Meaning
+pub mod Reasons
 pub mod Samples
 pub mod Selects
 pub mod Simple

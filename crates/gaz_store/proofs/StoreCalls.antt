@@ -13,11 +13,11 @@ use Rattle.gaz_keeper.specs.Keeper.{Content, Enters, Goes, IsAtHand, IsNew, IsNo
 use Rattle.gaz_keeper.specs.declared.fault.ShelfFault.{ShelfFault}
 use Rattle.gaz_kept.specs.Contents.{content_in}
 use Rattle.gaz_calls.specs.Altering.{Writes}
-use Rattle.gaz_calls.specs.Asking.{AsksTables, Fails, IsAnyway, Tallies}
+use Rattle.gaz_calls.specs.Asking.{Asks, AsksTables, Fails, IsAnyway, Tallies}
 use Rattle.gaz_calls.specs.Remembered.{Remembered}
 use Rattle.gaz_calls.specs.Writing.{AppliesNext, Comes, IsNewIn, IsNextIn, RejectsNext, WhereSo}
 use Rattle.gaz_calls.specs.declared.tables.Tables.{Tables}
-use Rattle.gaz_calls.proofs.Answered.{failed_at_once}
+use Rattle.gaz_calls.proofs.Seeing.{asks_nothing}
 use Rattle.gaz_store.specs.Beside.{Turns}
 use Rattle.gaz_store.specs.Store.{cleared, progress_of, seen_beside, seen_in, working_of}
 use Rattle.gaz_store.specs.declared.judgement.Judgement.{Judgement}
@@ -104,8 +104,14 @@ module _ {S R : Type 0} {store : Ghosts S} (register : List ℕ) (old : Store S 
       → Goes {T = T} (seen_in register old) (seen_in register (record old { tables = t; judging = k })) (Err e) ⊤ becomes commits after
   refused {T} t k broken e fails becomes commits after = by_commits commits
     where
+      none : Result T ShelfFault
+      none = Err e
+
       goes : Goes {T = T} (seen_in register old) (seen_in register (record old { tables = t; judging = k })) (Err e) ⊤ becomes None after
-      goes = breaks {A = T} {T = T} t k broken (Err e) e (Err e) IsAnyway becomes after (failed_at_once {T = T} old.tables t e IsAnyway fails) refl refl
+      goes = subst (λ j. Goes {T = T} (seen_in register old) (seen_in register (record old { tables = t; judging = j })) (Err e) ⊤ becomes None after) (sym broken)
+          (goes_wrong {T = T} register s (state store t.conn) old.tables.at_hand t.at_hand old.judging old.tables.failures t.failures e none IsAnyway becomes after
+          (subst (λ h. Asks s (state store h) none IsAnyway) (sym fails.conn) (asks_nothing s none IsAnyway (λ h kept. tt)))
+          (record { kept = fails.kept; store = fails.counted }) fails.at_hand)
 
       by_commits : (commits : Option Content) → Goes {T = T} (seen_in register old) (seen_in register (record old { tables = t; judging = k })) (Err e) ⊤ becomes commits after
       by_commits None = goes

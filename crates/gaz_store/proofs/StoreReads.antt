@@ -26,7 +26,7 @@ use Rattle.gaz_kept.specs.Files.{files_in, reached_in}
 use Rattle.gaz_kept.specs.Kept.{IsKept}
 use Rattle.gaz_kept.specs.Opening.{IsOf}
 use Rattle.gaz_kept.specs.LastViews.{last_in}
-use Rattle.gaz_calls.specs.Asking.{Asks, AsksTables, Recalls, Tallies}
+use Rattle.gaz_calls.specs.Asking.{Asks, AsksTables, AsksTablesOf, Recalls, Tallies}
 use Rattle.gaz_calls.specs.Remembered.{AreSo, Remembered, held_in}
 use Rattle.gaz_calls.specs.Seen.{IsUnharmed}
 use Rattle.gaz_calls.specs.declared.tables.Tables.{Tables}
@@ -172,7 +172,7 @@ module _ {S R : Type 0} {store : Ghosts S} {T : Type 0} (register : List ℕ) (o
   Tells Q j = Reads (seen_in register old) (seen_in register (record old { tables = tables; judging = j })) r Q
 
   -- what is asked of the board
-  pub tells : (P : Database → T → Type 0) (Q : T → Type 0) → AsksTables old.tables tables r P → ((x : T) → IsKept db → P db x → Q x) → Tells Q k
+  pub tells : {IsSo : Database → Type 0} (P : Database → T → Type 0) (Q : T → Type 0) → AsksTablesOf IsSo old.tables tables r P → ((x : T) → IsKept db → P db x → Q x) → Tells Q k
   tells P Q asks goes =
       subst (Tells Q) (sym is_cleared)
       (store_reads register _ _ _ _ old.judging _ _ r P Q asks.asks asks.tallies (λ h kept so. subst (λ m. AreSo m (rows_of db received)) (sym asks.at_hand) so)

@@ -1,5 +1,6 @@
 -- A store of three tables, whatever else is in its database, and what a statement makes of it.
-use Rattle.std.specs.Prelude.{◌≡◌, ◌≢◌, ℕ, List, [], ◌∷◌, Result, Vec, IfOk, OnOk, OnErr, IsTrue}
+use Rattle.std.specs.Prelude.{◌≡◌, ◌≢◌, ℕ, List, [], ◌∷◌, Result, Vec, IfErr, IfOk, OnOk, OnErr}
+use Rattle.std.specs.Prelude.{IsTrue}
 use Rattle.std.specs.declared.alloc.Global.{Global}
 use Rattle.sqlite.specs.Order.{Row}
 use Rattle.sqlite.specs.declared.types.Value.TheVariants.{Int}
@@ -14,6 +15,7 @@ use Rattle.sqlite_schema.specs.declared.schema.Table.{Table}
 use Rattle.sqlite_trees.specs.declared.store.Store.{Ghosts}
 use Rattle.sqlite_trees.specs.declared.store.Shape.TheVariants as shape
 use Rattle.gaz_sql_facts.specs.Changes.{AreTreesOf, InPlace, IsAdded, IsSpared, IsUndone}
+use Rattle.gaz_sql_facts.specs.Reasons.{HasReason}
 use Rattle.gaz_tables.specs.Schema.{meta, received, version2}
 use Rattle.gaz_tables.specs.Tables.{AreThere, rows_of, tree_of}
 
@@ -80,6 +82,11 @@ module _ {S : Type 0} (g : Ghosts S) (before after : Held S) where
   abbrev pub Stays : Result (Vec Row Global) Error → Type 0
   Stays result = HasCleanDisk new → HasTables old.now → OnOk result (IsUnchanged old new)
 
+  -- a query that fails does so for want of memory, or for the disk, or because the connection was
+  -- shut or its steps are limited
+  abbrev pub FailsByOthers : Result (Vec Row Global) Error → Type 0
+  FailsByOthers result = HasCleanDisk new → HasTables old.now → IfErr result (HasReason old new)
+
   -- a stop may leave what it could before and nothing else
   abbrev pub LeavesAsBefore : Type 0
   LeavesAsBefore = (HasCleanDisk old → HasTables old.now) → Survives old new (λ _. ⊥)
@@ -129,4 +136,5 @@ pub record Queries {S : Type 0} (g : Ghosts S) (before after : Held S) (table : 
   pub stays : Stays g before after result
   pub was_open : WasOpen g before after result
   pub spared : Spares g before after result
+  pub reason : FailsByOthers g before after result
   pub leaves : LeavesAsBefore g before after

@@ -17,5 +17,10 @@ returns-in_ok-signed-in-Some-clause-said c =
       subst (SayLives c.args.rows.now) none c.in_ok-lives.ensures.said,
       c.in-Some.row.now,
       has_got c.args.rows.now (length c.args.rows.now - 1) c.in-Some.row.now (sym c.in-Some.ensures.value),
-      c.in_ok-signed-in-Some.ensures ∙ ap Int (sym (to_z-of_z w64 c.in_ok-signed-in-Some.field-0 fits)),
+      c.in_ok-signed-in-Some.ensures.said ∙ ap Int (sym (to_z-of_z w64 c.in_ok-signed-in-Some.field-0 fits)),
     )
+
+pub returns-in_err-signed-in-Some-clause-told : goal.returns-in_err-signed-in-Some-clause-told
+returns-in_err-signed-in-Some-clause-told c = λ each.
+    let row = each c.in-Some.row.now (has_got c.args.rows.now (length c.args.rows.now - 1) c.in-Some.row.now (sym c.in-Some.ensures.value)) in
+    absurd (c.in_err-signed-in-Some.ensures.told (row.place, row.rowid))

@@ -1,5 +1,5 @@
 use Rattle.std.proofs.Common.{◌∙◌, sym}
 use Rattle.gaz_answers.proofs.steps.step_of.Goals as goal
 
-pub returns-then-found : goal.returns-then-found
-returns-then-found c says is = sym is ∙ c.if-found.true
+pub returns-then-found-clause-said : goal.returns-then-found-clause-said
+returns-then-found-clause-said c says is = sym is ∙ c.if-found.true

@@ -2,7 +2,8 @@
 use Rattle.std.proofs.Common.{◌∙◌, refl, sym, subst}
 use Rattle.gaz_steps.specs.Hubs.{door_of}
 use Rattle.gaz_hub.specs.Settling.{Tries}
-use Rattle.gaz_hub.proofs.Advancing.{is_err, neither, tries_nothing, tries_on, tries_stopped}
+use Rattle.gaz_keeper.proofs.Faults.{passed_on}
+use Rattle.gaz_hub.proofs.Advancing.{neither, tries_nothing, tries_on, tries_stopped}
 use Rattle.gaz_hub.proofs.Memory.{rest_all, rest_more, rest_still}
 use Rattle.gaz_hub.proofs.settling.judge_each.Goals as goal
 
@@ -16,7 +17,7 @@ returns-in_err-judged-clause-tries g c =
     let d = door_of c.args.register.now in
     let a = g.K.Shelf.seen c.args.keeper.now in
     let e = c.in_err-judged.field-0.0 in
-    subst (λ r. Tries d c.args.left a (g.K.Shelf.seen c.judge_next.new.keeper) r (λ x. ⊥)) (sym (is_err c.from_residual.result e c.from_residual.ensures.1))
+    subst (λ r. Tries d c.args.left a (g.K.Shelf.seen c.judge_next.new.keeper) r (λ x. ⊥)) (sym (passed_on c.from_residual.result e c.from_residual.ensures.1))
     (tries_stopped c.args.register.now _ c.args.left a (g.K.Shelf.seen c.loop-code.keeper) _ e _ _ _ c.loop-code.invariant.tries c.in_err-judged.ensures.tries)
 
 pub loop-code-preserved : goal.loop-code-preserved

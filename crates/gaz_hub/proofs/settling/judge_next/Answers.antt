@@ -6,7 +6,8 @@ use Rattle.gaz_keeper.specs.declared.fault.ShelfFault.TheVariants.{Memory}
 use Rattle.gaz_steps.specs.Hubs.{door_of}
 use Rattle.gaz_hub.specs.Settling.{Tries}
 use Rattle.gaz_hub.specs.declared.looking.Next.TheVariants as next
-use Rattle.gaz_hub.proofs.Advancing.{adds_after, adds_judged, adds_skipped, asks_bad, asks_good, is_err, stops_after, tries_broken, tries_forgotten, tries_judged, tries_past}
+use Rattle.gaz_keeper.proofs.Faults.{passed_on}
+use Rattle.gaz_hub.proofs.Advancing.{adds_after, adds_judged, adds_skipped, asks_bad, asks_good, stops_after, tries_broken, tries_forgotten, tries_judged, tries_past}
 use Rattle.gaz_hub.proofs.Memory.{rest_done, rest_judged, rest_waiting}
 use Rattle.gaz_steps.proofs.Looks.{left_not_open}
 use Rattle.gaz_hub.proofs.Stopping.{marks_judged, marks_skipped}
@@ -18,7 +19,7 @@ returns-in_err-ask_room-in-Good-clause-tries g c =
     let b = g.K.Shelf.seen c.look.new.keeper in
     let e = c.in_err-ask_room-in-Good.field-0.0 in
     let looked = rw c.in-Good.is at c.in_ok-next.ensures in
-    subst (λ r. Tries (door_of c.args.register.now) c.args.left a b r (λ k. k ≡ c.args.code)) (sym (is_err c.from_residual-in_err-ask_room-in-Good.result e c.from_residual-in_err-ask_room-in-Good.ensures.1))
+    subst (λ r. Tries (door_of c.args.register.now) c.args.left a b r (λ k. k ≡ c.args.code)) (sym (passed_on c.from_residual-in_err-ask_room-in-Good.result e c.from_residual-in_err-ask_room-in-Good.ensures.1))
     (tries_past c.args.register.now a b c.args.code c.args.left e (next.Good c.in-Good.volume c.in-Good.file) (Good c.in-Good.file) _ c.in_err-ask_room-in-Good.ensures.none looked c.requires (λ h. h.1))
 
 pub returns-in_err-ask_room-in-Bad-clause-tries : goal.returns-in_err-ask_room-in-Bad-clause-tries
@@ -27,7 +28,7 @@ returns-in_err-ask_room-in-Bad-clause-tries g c =
     let b = g.K.Shelf.seen c.look.new.keeper in
     let e = c.in_err-ask_room-in-Bad.field-0.0 in
     let looked = rw c.in-Bad.is at c.in_ok-next.ensures in
-    subst (λ r. Tries (door_of c.args.register.now) c.args.left a b r (λ k. k ≡ c.args.code)) (sym (is_err c.from_residual-in_err-ask_room-in-Bad.result e c.from_residual-in_err-ask_room-in-Bad.ensures.1))
+    subst (λ r. Tries (door_of c.args.register.now) c.args.left a b r (λ k. k ≡ c.args.code)) (sym (passed_on c.from_residual-in_err-ask_room-in-Bad.result e c.from_residual-in_err-ask_room-in-Bad.ensures.1))
     (tries_past c.args.register.now a b c.args.code c.args.left e (next.Bad c.in-Bad.volume c.in-Bad.place c.in-Bad.rule) (Bad c.in-Bad.place c.in-Bad.rule) _ c.in_err-ask_room-in-Bad.ensures.none looked c.requires (λ h. h.1))
 
 pub returns-in_err-judge-in-Good-clause-tries : goal.returns-in_err-judge-in-Good-clause-tries
@@ -43,7 +44,7 @@ returns-in_err-judge-in-Good-clause-tries g c =
     (stops_after d a b _ _ _ c.args.code (Good c.in-Good.file) _ _ looked (λ h. h.1) (asks_good b.content c.args.code c.in-Good.file) (marks_judged b _ _ _ _ _ c.in_err-judge-in-Good.ensures))
     e c.args.left (λ k. k ≡ c.args.code)
     (adds_after a b _ _ _ c.args.code (Good c.in-Good.file) own _ _ looked (asks_good b.content c.args.code c.in-Good.file) (adds_judged b _ _ _ _ _ c.in_err-judge-in-Good.ensures)) in
-    subst (λ r. Tries d c.args.left a (g.K.Shelf.seen c.judge.new.keeper) r (λ k. k ≡ c.args.code)) (sym (is_err c.from_residual-in_err-judge-in-Good.result e c.from_residual-in_err-judge-in-Good.ensures.1)) told
+    subst (λ r. Tries d c.args.left a (g.K.Shelf.seen c.judge.new.keeper) r (λ k. k ≡ c.args.code)) (sym (passed_on c.from_residual-in_err-judge-in-Good.result e c.from_residual-in_err-judge-in-Good.ensures.1)) told
 
 pub returns-in-Good-clause-tries : goal.returns-in-Good-clause-tries
 returns-in-Good-clause-tries g c =
@@ -104,7 +105,7 @@ returns-in_err-wake-in-Good-clause-tries g c =
     let b = g.K.Shelf.seen c.look.new.keeper in
     let own = blocks_of c.args.register.now c.args.code in
     let looked = rw c.in-Good.is at c.in_ok-next.ensures in
-    subst (λ r. Tries d c.args.left a (g.K.Shelf.seen c.judge.new.keeper) r (λ k. k ≡ c.args.code)) (sym (is_err c.from_residual-in_err-wake-in-Good.result Memory c.from_residual-in_err-wake-in-Good.ensures.1))
+    subst (λ r. Tries d c.args.left a (g.K.Shelf.seen c.judge.new.keeper) r (λ k. k ≡ c.args.code)) (sym (passed_on c.from_residual-in_err-wake-in-Good.result Memory c.from_residual-in_err-wake-in-Good.ensures.1))
     (tries_forgotten d a (g.K.Shelf.seen c.judge.new.keeper) c.args.code (Good c.in-Good.file)
     (λ stood fine. (looked.right stood (c.in_ok-judge-in-Good.ensures.harm fine)).1)
     (stops_after (door_of c.args.register.now) a b _ _ _ c.args.code (Good c.in-Good.file) _ _ looked (λ h. h.1) (asks_good b.content c.args.code c.in-Good.file) (marks_judged b _ _ _ _ _ c.in_ok-judge-in-Good.ensures)) _ Memory c.args.left _ (λ e. cc)
@@ -118,7 +119,7 @@ returns-in_err-wake-in-Bad-clause-tries g c =
     let own = blocks_of c.args.register.now c.args.code in
     let rd = Bad c.in-Bad.place c.in-Bad.rule in
     let looked = rw c.in-Bad.is at c.in_ok-next.ensures in
-    subst (λ r. Tries d c.args.left a (g.K.Shelf.seen c.skip.new.self) r (λ k. k ≡ c.args.code)) (sym (is_err c.from_residual-in_err-wake-in-Bad.result Memory c.from_residual-in_err-wake-in-Bad.ensures.1))
+    subst (λ r. Tries d c.args.left a (g.K.Shelf.seen c.skip.new.self) r (λ k. k ≡ c.args.code)) (sym (passed_on c.from_residual-in_err-wake-in-Bad.result Memory c.from_residual-in_err-wake-in-Bad.ensures.1))
     (tries_forgotten d a (g.K.Shelf.seen c.skip.new.self) c.args.code rd
     (λ stood fine. (looked.right stood (c.in_ok-skip-in-Bad.ensures.harm fine)).1)
     (stops_after (door_of c.args.register.now) a b _ _ _ c.args.code rd _ _ looked (λ h. h.1) (asks_bad b.content c.args.code c.in-Bad.place c.in-Bad.rule)
@@ -142,7 +143,7 @@ returns-in_err-skip-in-Bad-clause-tries g c =
     e c.args.left (λ k. k ≡ c.args.code)
     (adds_after a b _ _ _ c.args.code rd own _ _ looked (asks_bad b.content c.args.code c.in-Bad.place c.in-Bad.rule)
     (adds_skipped b _ _ c.args.code own c.in-Bad.place c.in-Bad.rule (left_not_open a.progress b.progress looked.keeps.progress c.requires) c.in_err-skip-in-Bad.ensures)) in
-    subst (λ r. Tries d c.args.left a (g.K.Shelf.seen c.skip.new.self) r (λ k. k ≡ c.args.code)) (sym (is_err c.from_residual-in_err-skip-in-Bad.result e c.from_residual-in_err-skip-in-Bad.ensures.1)) told
+    subst (λ r. Tries d c.args.left a (g.K.Shelf.seen c.skip.new.self) r (λ k. k ≡ c.args.code)) (sym (passed_on c.from_residual-in_err-skip-in-Bad.result e c.from_residual-in_err-skip-in-Bad.ensures.1)) told
 
 pub returns-clause-rest : goal.returns-clause-rest
 returns-clause-rest g c =

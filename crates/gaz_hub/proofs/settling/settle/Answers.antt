@@ -4,7 +4,8 @@ use Rattle.std.specs.Prelude.{⊤, Ok, Some}
 use Rattle.gaz_steps.specs.Hubs.{door_of}
 use Rattle.gaz_hub.specs.Settling.{Tells, Tries}
 use Rattle.gaz_hub.specs.Waiting.{remembering}
-use Rattle.gaz_hub.proofs.Advancing.{advances_less, advances_then, is_err}
+use Rattle.gaz_keeper.proofs.Faults.{passed_on}
+use Rattle.gaz_hub.proofs.Advancing.{advances_less, advances_then}
 use Rattle.gaz_hub.proofs.Rounds.{settled_now, settling_stopped}
 use Rattle.gaz_hub.proofs.Memory.{rest_then, tells_over}
 use Rattle.gaz_hub.proofs.settling.settle.Goals as goal
@@ -16,7 +17,7 @@ returns-in_err-judged-clause-tells g c =
     let a = g.K.Shelf.seen c.args.keeper.now in
     let e = c.in_err-judged.field-0.0 in
     let many : length c.custodians.result.now ≡ length reg = ap length c.custodians.ensures.value in
-    subst (λ r. Tells {T = Unit {0}} d (remembering reg (Some c.args.waiters.now) a) (g.K.Shelf.seen c.settle_round.new.keeper) r (λ _. ⊤)) (sym (is_err c.from_residual.result e c.from_residual.ensures.1))
+    subst (λ r. Tells {T = Unit {0}} d (remembering reg (Some c.args.waiters.now) a) (g.K.Shelf.seen c.settle_round.new.keeper) r (λ _. ⊤)) (sym (passed_on c.from_residual.result e c.from_residual.ensures.1))
     (tells_over d reg (Some c.args.waiters.now) a _ _ _
     (settling_stopped reg _ c.loop-round.left a (g.K.Shelf.seen c.loop-round.keeper) _ e _ _ (omega (arith, many, c.loop-round.invariant.rounds))
     c.loop-round.invariant.advances c.in_err-judged.ensures.tries))

@@ -1,11 +1,11 @@
 use Rattle.sqlite.specs.Held.{state}
 use Rattle.gaz_tables.proofs.Queries.{queries}
 use Rattle.gaz_tables.proofs.VersionMeanings.{approved_on_found}
-use Rattle.gaz_tables.proofs.VersionQueries.{approved_on_anywhere}
+use Rattle.gaz_tables.proofs.VersionQueries.{approved_on_anywhere, approved_on_suits}
 use Rattle.gaz_tables.specs.Schema.{version2}
 use Rattle.gaz_tables.proofs.versions.approved_on.Goals as goal
 
 pub returns-clause-asked : goal.returns-clause-asked
 returns-clause-asked g c =
-    queries g.S.Store c.args.conn.now c.query_all.new.self version2 (λ s there. there.versions) _ _ _ _ _ _ approved_on_anywhere _ c.query_all.result c.query_all.ensures.ok c.query_all.ensures.err c.query_all.ensures.survives _
+    queries g.S.Store c.args.conn.now c.query_all.new.self version2 (λ s there. there.versions) _ _ _ _ _ _ approved_on_anywhere _ c.query_all.result c.query_all.ensures.ok c.query_all.ensures.err c.query_all.ensures.survives (rw (c.params-to_sql.ensures, c.params-to_sql-2.ensures, c.params-to_sql-3.ensures, c.params-to_sql-4.ensures) (approved_on_suits c.args.cust c.args.street c.args.after.now c.args.most)) _
     (λ has answer. approved_on_found (state g.S.Store c.args.conn.now).now has c.args.cust c.args.street c.args.after.now c.args.most c.query_all.result (rw (c.params-to_sql.ensures, c.params-to_sql-2.ensures, c.params-to_sql-3.ensures, c.params-to_sql-4.ensures) at answer))

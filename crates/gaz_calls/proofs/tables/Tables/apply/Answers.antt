@@ -1,7 +1,7 @@
 use Rattle.gaz_views.specs.declared.verdict.Verdict.TheVariants.{Applied}
 use Rattle.gaz_kept.specs.Keeping.{KeepsVolume}
 use Rattle.gaz_kept.proofs.KeepStands.{mark_judges}
-use Rattle.gaz_calls.proofs.Answered.{passed_on}
+use Rattle.gaz_keeper.proofs.Faults.{passed_on}
 use Rattle.gaz_calls.proofs.Numbering.{is_next, numbered}
 use Rattle.gaz_calls.proofs.Receiving.{Recalled, judged_err, judged_ok, writes_failing, writes_never}
 use Rattle.gaz_calls.proofs.tables.Tables.apply.Goals as goal

@@ -1,5 +1,6 @@
 use Rattle.std.proofs.Common.{◌+◌, ◌-◌, ◌/◌, arith}
-use Rattle.gaz_calls.proofs.Answered.{asked_fault, passed_on}
+use Rattle.gaz_keeper.proofs.Faults.{passed_on}
+use Rattle.gaz_calls.proofs.Answered.{asked_fault}
 use Rattle.gaz_calls.proofs.Halving.{bounded, is_beyond, is_reached}
 use Rattle.gaz_calls.proofs.tables.Tables.count_judged.Goals as goal
 

@@ -5,7 +5,7 @@ use Rattle.gaz_tables.specs.Tables.{rows_of}
 use Rattle.gaz_kept.specs.Files.{reached_in}
 use Rattle.gaz_calls.specs.Remembered.{IsSo}
 use Rattle.gaz_calls.specs.declared.at_hand.AtHand.{AtHand}
-use Rattle.gaz_calls.proofs.Answered.{passed_on}
+use Rattle.gaz_keeper.proofs.Faults.{passed_on}
 use Rattle.gaz_calls.proofs.Composing.{faulted}
 use Rattle.gaz_calls.proofs.Recalling.{at_hand_already, recalls_asked, recalls_noting}
 use Rattle.gaz_calls.proofs.tables.Tables.counts.Goals as goal

@@ -9,5 +9,5 @@ pub returns : goal.returns
 returns g c =
     query_asks _ _ _ _ _ _ _ (λ db rows. FindsCustody c.args.code c.args.id.now (rows_of db version2) rows.items)
     c.ready.ensures.asks c.in_ok-ready.ensures.ready
-    (rw c.number-cust.ensures.value at c.newest-found.ensures.asked.found) c.newest-found.ensures.asked.stays c.newest-found.ensures.asked.spared c.newest-found.ensures.asked.leaves
+    (rw c.number-cust.ensures.value at c.newest-found.ensures.asked.found) c.newest-found.ensures.asked.stays c.newest-found.ensures.asked.spared c.newest-found.ensures.asked.reason c.newest-found.ensures.asked.leaves
     refl refl c.told.ensures.tells

@@ -9,5 +9,5 @@ pub returns : goal.returns
 returns g c =
     query_asks _ _ _ _ _ _ _ (λ db rows. FindsFile c.args.code c.args.volume (rows_of db received) rows.items)
     c.ready.ensures.asks c.in_ok-ready.ensures.ready
-    (rw (c.number.ensures.value, c.number-2.ensures.value) at c.file-found.ensures.asked.found) c.file-found.ensures.asked.stays c.file-found.ensures.asked.spared c.file-found.ensures.asked.leaves
+    (rw (c.number.ensures.value, c.number-2.ensures.value) at c.file-found.ensures.asked.found) c.file-found.ensures.asked.stays c.file-found.ensures.asked.spared c.file-found.ensures.asked.reason c.file-found.ensures.asked.leaves
     refl refl c.told.ensures.tells

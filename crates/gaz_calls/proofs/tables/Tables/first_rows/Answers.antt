@@ -9,5 +9,5 @@ pub returns : goal.returns
 returns g c =
     query_asks _ _ _ _ _ _ _ (λ db rows. FindsFirst 512 (rows_of db version2) rows.items)
     c.ready.ensures.asks c.in_ok-ready.ensures.ready
-    c.first-found.ensures.asked.found c.first-found.ensures.asked.stays c.first-found.ensures.asked.spared c.first-found.ensures.asked.leaves
+    c.first-found.ensures.asked.found c.first-found.ensures.asked.stays c.first-found.ensures.asked.spared c.first-found.ensures.asked.reason c.first-found.ensures.asked.leaves
     refl refl c.told.ensures.tells

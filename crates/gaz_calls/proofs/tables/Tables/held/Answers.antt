@@ -7,7 +7,7 @@ use Rattle.gaz_kept.specs.Files.{files_in}
 use Rattle.gaz_calls.specs.Asking.{Recalls}
 use Rattle.gaz_calls.specs.Remembered.{IsSo, held_in}
 use Rattle.gaz_calls.specs.declared.at_hand.AtHand.{AtHand}
-use Rattle.gaz_calls.proofs.Answered.{passed_on}
+use Rattle.gaz_keeper.proofs.Faults.{passed_on}
 use Rattle.gaz_calls.proofs.Recalling.{if_some_at, recalled, recalls_fault, recalls_more, recalls_noting}
 use Rattle.gaz_calls.proofs.tables.Tables.held.Goals as goal
 

@@ -2,8 +2,9 @@ use Rattle.std.proofs.Common.{subst, sym}
 use Rattle.std.specs.Prelude.{option_map}
 use Rattle.gaz_kept.specs.LastViews.{last_in}
 use Rattle.gaz_answers.specs.Streets.{AreBehind, IsStep, is_left_part}
-use Rattle.gaz_calls.proofs.Answered.{asked_fault, asked_step, passed_on}
-use Rattle.gaz_calls.proofs.Composing.{asked_nothing, failed}
+use Rattle.gaz_keeper.proofs.Faults.{passed_on}
+use Rattle.gaz_calls.proofs.Answered.{asked_fault, asked_step}
+use Rattle.gaz_calls.proofs.Composing.{asked_nothing, wanting}
 use Rattle.gaz_answers.proofs.StreetRows.{walk_begins}
 use Rattle.gaz_calls.proofs.tables.Tables.left_part.Goals as goal
 
@@ -30,4 +31,4 @@ pub returns-in_err-step : goal.returns-in_err-step
 returns-in_err-step g c = rw (passed_on _ _ c.from_residual.ensures.1) (asked_fault _ _ _ _ _ _ _ _ _ c.pages.invariant c.part_step.ensures c.in_err-step.was)
 
 pub returns : goal.returns
-returns g c = failed _ _ _ _ _ _ _ c.pages.invariant c.fail.ensures.fails
+returns g c = wanting _ _ _ _ _ c.pages.invariant

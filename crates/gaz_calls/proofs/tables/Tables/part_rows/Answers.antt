@@ -13,5 +13,5 @@ returns-clause-asks g c =
     let blpu : to_z w64 c.number.result ≡ pos c.args.uprn = omega (arith, ints, c.number.ensures.value, c.number.ensures.range) in
     query_asks _ _ _ _ _ _ _ (λ db rows. FindsParts c.args.code (number_of c.args.kind) (pos c.args.uprn) c.args.start.now c.args.most (rows_of db version2) rows.items)
     c.ready.ensures.asks c.in_ok-ready.ensures.ready
-    (rw (c.number-cust.ensures.value, c.number-kind.ensures, blpu) at c.parts_of-found.ensures.asked.found) c.parts_of-found.ensures.asked.stays c.parts_of-found.ensures.asked.spared c.parts_of-found.ensures.asked.leaves
+    (rw (c.number-cust.ensures.value, c.number-kind.ensures, blpu) at c.parts_of-found.ensures.asked.found) c.parts_of-found.ensures.asked.stays c.parts_of-found.ensures.asked.spared c.parts_of-found.ensures.asked.reason c.parts_of-found.ensures.asked.leaves
     refl refl c.told.ensures.tells

@@ -5,7 +5,7 @@ use Rattle.gaz_tables.specs.Receiveds.{Rejects}
 use Rattle.gaz_tables.specs.Schema.{received}
 use Rattle.gaz_tables.specs.Stores.{ChangesTable}
 use Rattle.gaz_calls.specs.Asking.{IsAnyway}
-use Rattle.gaz_calls.proofs.Answered.{passed_on}
+use Rattle.gaz_keeper.proofs.Faults.{passed_on}
 use Rattle.gaz_calls.proofs.Altering.{altered_nothing, statement_alters}
 use Rattle.gaz_calls.proofs.tables.Tables.reject.Goals as goal
 

@@ -1,7 +1,7 @@
 use Rattle.std.proofs.Common.{refl}
 use Rattle.gaz_kept.specs.Rewriting.{Registers}
 use Rattle.gaz_calls.specs.Asking.{IsAnyway}
-use Rattle.gaz_calls.proofs.Answered.{passed_on}
+use Rattle.gaz_keeper.proofs.Faults.{passed_on}
 use Rattle.gaz_calls.proofs.Altering.{altered_nothing, statement_alters}
 use Rattle.gaz_calls.proofs.tables.Tables.rewrite.Goals as goal
 

@@ -10,5 +10,5 @@ pub returns : goal.returns
 returns g c =
     query_asks _ _ _ _ _ _ _ (λ db rows. FindsBehind c.args.after 512 (rows_of db version2) rows.items)
     c.ready.ensures.asks c.in_ok-ready.ensures.ready
-    (rw (to_z-of_z w64 c.args.after c.ranges.after) at c.behind-found.ensures.asked.found) c.behind-found.ensures.asked.stays c.behind-found.ensures.asked.spared c.behind-found.ensures.asked.leaves
+    (rw (to_z-of_z w64 c.args.after c.ranges.after) at c.behind-found.ensures.asked.found) c.behind-found.ensures.asked.stays c.behind-found.ensures.asked.spared c.behind-found.ensures.asked.reason c.behind-found.ensures.asked.leaves
     refl refl c.told.ensures.tells

@@ -1,7 +1,7 @@
 use Rattle.std.proofs.Common.{◌≡◌, ◌∙◌, ◌≤◌, ap, arith, pos, w64}
 use Rattle.std.proofs.Math.Facts.{to_z-of_z}
 use mir.Val.{to_z, of_z}
-use Rattle.gaz_calls.proofs.Answered.{passed_on}
+use Rattle.gaz_keeper.proofs.Faults.{passed_on}
 use Rattle.gaz_calls.proofs.Numbering.{is_next, numbered}
 use Rattle.gaz_views.specs.declared.verdict.Verdict.TheVariants.{Rejected}
 use Rattle.gaz_calls.proofs.Receiving.{Recalled, RejectsAt, judged_err, judged_ok, skip_judges, writes_failing, writes_never}

@@ -4,7 +4,8 @@ use Rattle.gaz_tables.specs.Schema.{version2}
 use Rattle.gaz_tables.specs.Tables.{rows_of}
 use Rattle.gaz_row_items.specs.Newest.{IsNewest}
 use Rattle.gaz_row_items.specs.Versions.{histories_in}
-use Rattle.gaz_calls.proofs.Answered.{answered_ok, asked_fault, asked_step, passed_on}
+use Rattle.gaz_keeper.proofs.Faults.{passed_on}
+use Rattle.gaz_calls.proofs.Answered.{answered_ok, asked_fault, asked_step}
 use Rattle.gaz_calls.proofs.Passed.{used_by_life, used_by_passage}
 use Rattle.gaz_calls.proofs.tables.Tables.used.Goals as goal
 

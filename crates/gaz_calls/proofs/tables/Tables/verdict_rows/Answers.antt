@@ -9,5 +9,5 @@ pub returns : goal.returns
 returns g c =
     query_asks _ _ _ _ _ _ _ (λ db rows. FindsVerdict c.args.code c.args.volume (rows_of db received) rows.items)
     c.ready.ensures.asks c.in_ok-ready.ensures.ready
-    (rw (c.number.ensures.value, c.number-2.ensures.value) at c.verdict-found.ensures.asked.found) c.verdict-found.ensures.asked.stays c.verdict-found.ensures.asked.spared c.verdict-found.ensures.asked.leaves
+    (rw (c.number.ensures.value, c.number-2.ensures.value) at c.verdict-found.ensures.asked.found) c.verdict-found.ensures.asked.stays c.verdict-found.ensures.asked.spared c.verdict-found.ensures.asked.reason c.verdict-found.ensures.asked.leaves
     refl refl c.told.ensures.tells

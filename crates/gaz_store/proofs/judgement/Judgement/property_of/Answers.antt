@@ -1,7 +1,8 @@
 use Rattle.std.proofs.Common.{◌≡◌, ◌∙◌, IfOk, subst, sym}
 use Rattle.std.specs.FinMap as map
 use Rattle.gaz_records.specs.declared.key.Key.TheVariants as key
-use Rattle.gaz_calls.proofs.Answered.{asked_fault, asked_step, passed_on}
+use Rattle.gaz_keeper.proofs.Faults.{passed_on}
+use Rattle.gaz_calls.proofs.Answered.{asked_fault, asked_step}
 use Rattle.gaz_store.specs.Beside.{Beside}
 use Rattle.gaz_store.proofs.Turning.{its_property_beside}
 use Rattle.gaz_store.proofs.judgement.Judgement.property_of.Goals as goal

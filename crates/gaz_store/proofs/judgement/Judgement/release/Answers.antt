@@ -1,7 +1,8 @@
 use Rattle.std.proofs.Common.{IfOk, refl, subst, sym}
 use Rattle.gaz_records.specs.declared.key.Key.TheVariants as key
 use Rattle.gaz_views.specs.View.{with_release}
-use Rattle.gaz_calls.proofs.Answered.{asked_fault, asked_step, asked_want, passed_on}
+use Rattle.gaz_keeper.proofs.Faults.{passed_on}
+use Rattle.gaz_calls.proofs.Answered.{asked_fault, asked_step, asked_want}
 use Rattle.gaz_store.specs.Beside.{Makes, Readies, with_changes}
 use Rattle.gaz_store.proofs.judgement.Judgement.release.Goals as goal
 

@@ -1,6 +1,6 @@
 use Rattle.gaz_views.specs.Numbered.{with_adopted}
 use Rattle.gaz_store.proofs.PassedOn.{adopted_lawful}
-use Rattle.gaz_calls.proofs.Answered.{passed_on}
+use Rattle.gaz_keeper.proofs.Faults.{passed_on}
 use Rattle.gaz_store.proofs.StoreCalls.{breaks, refused, turns}
 use Rattle.gaz_store.proofs.shelf.StoreShelf.adopt.Goals as goal
 

@@ -1,6 +1,6 @@
 use Rattle.std.proofs.Common.{◌≡◌, ◌∙◌}
 use Rattle.gaz_views.specs.View.{custody_at}
-use Rattle.gaz_calls.proofs.Answered.{passed_on}
+use Rattle.gaz_keeper.proofs.Faults.{passed_on}
 use Rattle.gaz_store.proofs.StoreReads.{tells_after, tells_fault}
 use Rattle.gaz_store.proofs.shelf.StoreShelf.custody.Goals as goal
 

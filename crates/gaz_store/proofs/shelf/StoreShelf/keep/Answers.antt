@@ -1,4 +1,4 @@
-use Rattle.gaz_calls.proofs.Answered.{passed_on}
+use Rattle.gaz_keeper.proofs.Faults.{passed_on}
 use Rattle.gaz_store.proofs.StoreCalls.{keeps, keeps_not, refused}
 use Rattle.gaz_store.proofs.shelf.StoreShelf.keep.Goals as goal
 

@@ -1,6 +1,6 @@
 use Rattle.gaz_views.proofs.Lawful.{lawful_put}
 use Rattle.gaz_views.specs.View.{with_item}
-use Rattle.gaz_calls.proofs.Answered.{passed_on}
+use Rattle.gaz_keeper.proofs.Faults.{passed_on}
 use Rattle.gaz_store.proofs.StoreCalls.{breaks, refused, turns}
 use Rattle.gaz_store.proofs.shelf.StoreShelf.put.Goals as goal
 

@@ -1,6 +1,6 @@
 use Rattle.gaz_views.proofs.Lawful.{lawful_taken}
 use Rattle.gaz_views.specs.View.{without_key}
-use Rattle.gaz_calls.proofs.Answered.{passed_on}
+use Rattle.gaz_keeper.proofs.Faults.{passed_on}
 use Rattle.gaz_store.proofs.StoreCalls.{breaks, refused, turns}
 use Rattle.gaz_store.proofs.shelf.StoreShelf.take.Goals as goal
 

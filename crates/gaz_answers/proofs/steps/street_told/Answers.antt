@@ -1,0 +1,6 @@
+use Rattle.gaz_records.specs.declared.item.Kind.TheVariants as kind
+use Rattle.gaz_answers.proofs.NamedIds.{has_id}
+use Rattle.gaz_answers.proofs.steps.street_told.Goals as goal
+
+pub returns-clause-told : goal.returns-clause-told
+returns-clause-told c = λ each. c.step_of.ensures.told (λ r there. has_id kind.Lpi r (each r there).key)

@@ -1,0 +1,12 @@
+-- Why a query fails that means what it is asked.
+use Rattle.std.specs.Prelude.{◌≡◌, ◌⊎◌, false, IsSome}
+use Rattle.sqlite_disk.specs.Disk.{MoreFaults}
+use Rattle.sqlite.specs.State.{State}
+use Rattle.sqlite.specs.declared.error.Error.{Error}
+use Rattle.sqlite.specs.declared.error.Error.TheVariants.{SqliteFailure}
+use Rattle.sqlite.specs.declared.error.ErrorCode.TheVariants.{OutOfMemory}
+
+-- memory was lacking, the disk failed, the connection was shut, or its steps are limited
+abbrev pub HasReason : State → State → Error → Type 0
+HasReason old new e = (e ≡ SqliteFailure OutOfMemory) ⊎ (MoreFaults old.faults new.faults
+    ⊎ ((old.is_open ≡ false) ⊎ IsSome old.step_limit))
