@@ -15,6 +15,7 @@ pub mod PassageRows
 pub mod LivesTold
 pub mod VolumesTold
 pub mod WorkedLives
+pub mod WorkedRows
 pub mod ShownRows
 pub mod ShownFiles
 pub mod ShownPassages

@@ -1,19 +1,15 @@
 -- What queries find of rows of kind 92 is as a store writes it.
 use Rattle.std.proofs.Common.{◌≡◌, ◌∙◌, ℕ, pos, true, List, ◌∷◌, refl, sym, ap}
-use Rattle.std.proofs.lemmas.Bool.{and_parts}
 use Rattle.std.specs.Prelude.{is_some}
 use Rattle.sqlite.specs.Effect.{Database}
 use Rattle.sqlite.specs.Order.{Row}
 use Rattle.sqlite.specs.declared.types.Value.{Value}
 use Rattle.sqlite.specs.declared.types.Value.TheVariants.{Int, Text}
 use Rattle.sqlite_rules.specs.Lists.{Has}
-use Rattle.gaz_ids.specs.Numbers.{in_range}
 use Rattle.gaz_records.specs.declared.item.Kind.TheVariants as kind
 use Rattle.gaz_records.specs.declared.key.Key.TheVariants as key
-use Rattle.gaz_views.specs.declared.custody.Custody.{Custody}
-use Rattle.gaz_views.specs.declared.custody.Custody.TheVariants.{Adopted, Released}
 use Rattle.gaz_cells.proofs.Ids.{ids_back}
-use Rattle.gaz_cells.specs.Custody.{CustodyValue, custody_cells, is_custody, told_in}
+use Rattle.gaz_cells.specs.Custody.{CustodyValue, told_in}
 use Rattle.gaz_cells.specs.Ids.{key_named}
 use Rattle.gaz_tables.specs.Custody.{FindsCustody, FindsCustodyBehind, FindsCustodyUntil, IsCustodyBehind, custody_kind, custody_shown, listed_shown}
 use Rattle.gaz_tables.specs.Schema.{version2}
@@ -24,17 +20,13 @@ use Rattle.gaz_row_items.specs.Decoding.{Each, NamesKey}
 use Rattle.gaz_row_items.specs.NewestPassages.{ShowsPassage}
 use Rattle.gaz_row_items.specs.Versions.{number_in}
 use Rattle.gaz_kept.specs.Kept.{IsKept, IsPassageRow}
+use Rattle.gaz_kept.proofs.NewestPassages.{told_back}
 use Rattle.gaz_kept.proofs.PassageStatements.{kind_passage}
 use Rattle.gaz_kept.proofs.RowsRead.{Tells, tells_of}
 use Rattle.gaz_answers.specs.Passages.{ShowsPassed}
 use Rattle.gaz_answers.proofs.ShownRows.{first_shown, greatest_shown}
 
 -- ---- a row
-
--- its cells tell something
-are_told : (n : ℕ) (x : Custody) → is_custody x ≡ true → is_some (told_in (custody_cells n x)) ≡ true
-are_told n (Released to hop) such = let both = and_parts (in_range 1 9999 to) (in_range 1 9999 hop) such in rw (both.0, both.1) refl
-are_told n (Adopted from hop) such = let both = and_parts (in_range 1 9999 from) (in_range 1 9999 hop) such in rw (both.0, both.1) refl
 
 module _ (r : Row) (v : IsPassageRow r) where
   its : Tells r
@@ -46,7 +38,7 @@ module _ (r : Row) (v : IsPassageRow r) where
     live = v.live;
     other = v.street;
     hop = v.hop;
-    custody = ap (λ (d : CustodyValue). is_some (told_in d)) (sym its.follows.cells) ∙ are_told its.number its.custody its.follows.such;
+    custody = ap (λ (d : CustodyValue). is_some (told_in d)) (sym its.follows.cells) ∙ ap is_some (told_back its.number its.custody its.follows.such);
     bare = record {
       language = v.lang ∙ ap (λ (d : CustodyValue). Int (pos d.cells.links.lang)) (sym its.follows.cells);
       body = v.body ∙ ap (λ (d : CustodyValue). Text d.cells.body) (sym its.follows.cells);

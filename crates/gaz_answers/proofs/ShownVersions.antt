@@ -23,7 +23,7 @@ use Rattle.gaz_row_items.specs.Newest.{SaysLife, SaysNewest, SaysStood, stood_of
 use Rattle.gaz_row_items.specs.Versions.{number_in}
 use Rattle.gaz_row_items.specs.declared.newest.Life.{Life}
 use Rattle.gaz_kept.specs.Kept.{AreVersions, IsKept}
-use Rattle.gaz_answers.specs.Lives.{AreOfCustodians, IsRowBehind, ShowsVersion}
+use Rattle.gaz_answers.specs.Lives.{IsRowBehind, ShowsVersion}
 use Rattle.gaz_answers.specs.Streets.{ShowsOnStreet, ShowsPart}
 use Rattle.gaz_answers.proofs.Holding.{kind_row}
 use Rattle.gaz_answers.proofs.ShownItems.{lasts, shows_item, shows_key, shows_life, shows_version}
@@ -99,11 +99,10 @@ module _ (db : Database) (kept : IsKept db) (after : Option ℤ) (most : ℕ) (a
   abbrev all : List Row
   all = rows_of db version2
 
-  pub versions_shown : FindsInTurn (IsRowBehind after) most all answer → AreOfCustodians all → Each ShowsVersion answer
-  versions_shown found codes = page_shown ShowsVersion (IsRowBehind after) row_shown all shows answer rowid_place most found.page
+  pub versions_shown : FindsInTurn (IsRowBehind after) most all answer → Each ShowsVersion answer
+  versions_shown found = page_shown ShowsVersion (IsRowBehind after) row_shown all shows answer rowid_place most found.page
     where
       shows : (r : Row) → Has all r → IsRowBehind after r → ShowsVersion (row_shown r)
       shows r there fit =
           let rowid = rowid_is db kept.tables r there in
-          let code = codes r there in
-          record { version = shows_version r (kept.rows r there); place = rowid.0; rowid = rowid.1; first = code.0; last = code.1 }
+          record { version = shows_version r (kept.rows r there); place = rowid.0; rowid = rowid.1 }

@@ -5,3 +5,4 @@ pub mod Streets
 pub mod Lives
 pub mod Volumes
 pub mod WorkedLives
+pub mod WorkedRows

@@ -58,19 +58,11 @@ abbrev pub IsLifePage : List Row → LifePage → Type 0
 IsLifePage rows (Lives lives) = SayLives rows lives.items × (lives.items ≡ [] → rows ≡ [])
 IsLifePage rows (Behind last) = SayLives rows [] × (r : Row) × Has rows r × (rowid_of r ≡ Int last)
 
--- a row is an item's or says what became of a number, under a rowid and a custodian's code, as a
--- store writes it
+-- a row is an item's or says what became of a number, under a rowid, as a store writes it
 pub record ShowsVersion (r : Row) : Type 0 where
   pub version : IsVersion r
   pub place : ℤ
   pub rowid : rowid_of r ≡ Int place
-  pub first : 1 ≤ number_in (cust_of r)
-  pub last : number_in (cust_of r) ≤ last_code
-
--- each row has a custodian's code
-abbrev pub AreOfCustodians : List Row → Type 0
-AreOfCustodians rows =
-    (r : Row) → Has rows r → (1 ≤ number_in (cust_of r)) × (number_in (cust_of r) ≤ last_code)
 
 -- the row is an item's
 abbrev pub ShowsLife : Row → Type 0

@@ -4,12 +4,13 @@ ghost use Rattle.gaz_kept.specs.Files.{verdict_of};
 ghost use Rattle.gaz_row_items.specs.Decoding.{Each, IsTold, IsToldOrMemory};
 ghost use Rattle.gaz_answers.specs.Answers.{SaysBytes, SaysVerdict, ShowsBytes, ShowsVerdict};
 
-use gaz_row_items::decoding::{RowFault, number};
+use gaz_row_items::decoding::number;
+use gaz_row_items::fault::{RowFault, WrongRow};
 use gaz_views::Verdict;
 use sqlite::{Error, ErrorCode, Row};
 
 // The verdict of a state with its place and rule.
-fn verdict_of(state: u64, place: u64, rule: u64) -> Result<Option<Verdict>, RowFault>
+fn verdict_of(state: u64, place: u64, rule: u64) -> Result<Option<Verdict>, WrongRow>
     ensures said { IfOk result (λ v. v ≡ verdict_of state place rule) }
     ensures told { IsTold ((state ≤ 2) × (rule ≤ 255)) result }
 {
@@ -20,7 +21,7 @@ fn verdict_of(state: u64, place: u64, rule: u64) -> Result<Option<Verdict>, RowF
         return Ok(Some(Verdict::Applied));
     }
     if state != 2 || rule > 255 {
-        return Err(RowFault::Wrong);
+        return Err(WrongRow);
     }
     Ok(Some(Verdict::Rejected {
         place,
@@ -29,11 +30,8 @@ fn verdict_of(state: u64, place: u64, rule: u64) -> Result<Option<Verdict>, RowF
 }
 
 /// The verdict that the first row says, of state, place and rule; none where it waits, or where
-/// there is no row.
-///
-/// Never `Wrong` where each row says whether a file waits, or its verdict, as a store's do. Takes no
-/// memory.
-pub fn verdict_said(rows: &[Row]) -> Result<Option<Verdict>, RowFault>
+/// there is no row. `WrongRow` where a row says neither that a file waits nor its verdict.
+pub fn verdict_said(rows: &[Row]) -> Result<Option<Verdict>, WrongRow>
     ensures said { IfOk result (SaysVerdict rows.now) }
     ensures told { IsTold (Each ShowsVerdict rows.now) result }
 {

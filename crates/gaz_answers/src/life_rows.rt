@@ -15,7 +15,8 @@ use gaz_cells::{Bodies, CUSTODY, CellFault, Links, Row as Cells};
 use gaz_ids::Code;
 use gaz_loaded::Life;
 use gaz_records::SharedItem;
-use gaz_row_items::decoding::{RowFault, body_lines, number, text};
+use gaz_row_items::decoding::{body_lines, number, text};
+use gaz_row_items::fault::{RowFault, WrongRow};
 use gaz_row_items::newest::NEVER;
 use sqlite::Row;
 use sqlite::types::ValueRef;
@@ -33,30 +34,30 @@ pub enum LifePage {
 }
 
 // The whole number in a column, also one below 0, where one stands there.
-fn signed(row: &Row, at: usize) -> Result<i64, RowFault>
+fn signed(row: &Row, at: usize) -> Result<i64, WrongRow>
     ensures said { IfOk result (λ n. column row.now at ≡ Int n) }
     ensures told { IsTold (HasNumber row.now at) result }
 {
     match row.get_ref(at) {
         Ok(ValueRef::Int(n)) => Ok(n),
-        _ => Err(RowFault::Wrong),
+        _ => Err(WrongRow),
     }
 }
 
 // A number below 256.
-fn small(row: &Row, at: usize) -> Result<u8, RowFault>
+fn small(row: &Row, at: usize) -> Result<u8, WrongRow>
     ensures said { IfOk result (λ n. column row.now at ≡ Int (pos n)) }
     ensures told { IsTold (IsSmall (column row.now at)) result }
 {
     let said = number(row, at)?;
     if said > 255 {
-        return Err(RowFault::Wrong);
+        return Err(WrongRow);
     }
     Ok(said as u8)
 }
 
 // The numbers by which the item is looked for.
-fn links_in(row: &Row) -> Result<Links, RowFault>
+fn links_in(row: &Row) -> Result<Links, WrongRow>
     ensures said { IfOk result (λ links. links ≡ (cells_in row.now).links) }
     ensures told { IsTold (HasLinks row.now) result }
 {
@@ -95,13 +96,13 @@ fn item_in(alloc: Global, bodies: &mut Bodies<'_>, row: &Row) -> Result<SharedIt
 }
 
 // The custodian of this number.
-fn code_in(row: &Row) -> Result<Code, RowFault>
+fn code_in(row: &Row) -> Result<Code, WrongRow>
     ensures said { IfOk result (λ code. column row.now 1 ≡ Int (pos code)) }
     ensures told { IsTold (HasCode row.now) result }
 {
     match Code::of(number(row, 1)?) {
         Some(code) => Ok(code),
-        None => Err(RowFault::Wrong),
+        None => Err(WrongRow),
     }
 }
 
@@ -113,14 +114,14 @@ fn gone_in(gone: u64) -> Option<u64>
 }
 
 // Nothing was handed on, as of every item.
-fn check_hop(row: &Row) -> Result<(), RowFault>
+fn check_hop(row: &Row) -> Result<(), WrongRow>
     ensures said { IfOk result (λ done. hop_of row.now ≡ Int (pos 0)) }
     ensures told { IsTold (hop_of row.now ≡ Int (pos 0)) result }
 {
     if number(row, 11)? == 0 {
         Ok(())
     } else {
-        Err(RowFault::Wrong)
+        Err(WrongRow)
     }
 }
 
@@ -147,7 +148,7 @@ fn life_in(alloc: Global, bodies: &mut Bodies<'_>, row: &Row) -> Result<Life, Ro
 }
 
 // Whether a row is an item's, and doesn't say what became of a number.
-fn is_items(row: &Row) -> Result<bool, RowFault>
+fn is_items(row: &Row) -> Result<bool, WrongRow>
     ensures said { IfOk result (λ b. b ≡ is_items row.now) }
     ensures told { IsTold (IsWhole (kind_of row.now)) result }
 {

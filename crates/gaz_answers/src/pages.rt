@@ -6,7 +6,8 @@ ghost use Rattle.gaz_answers.specs.Paging.{IsStart, SayItems, item_said};
 
 use gaz_cells::{Bodies, id_of};
 use gaz_records::{Key, Kind, SharedItem};
-use gaz_row_items::decoding::{RowFault, body_lines, key_in, kind_in, next_item_in};
+use gaz_row_items::decoding::{body_lines, key_in, kind_in, next_item_in};
+use gaz_row_items::fault::RowFault;
 use sqlite::Row;
 use std::alloc::{AllocError, Global};
 

@@ -11,27 +11,28 @@ use gaz_cells::id_of;
 use gaz_ids::{LAST_VOLUME, Uprn};
 use gaz_loaded::Passage;
 use gaz_records::{Key, Kind};
-use gaz_row_items::decoding::{RowFault, key_in};
+use gaz_row_items::decoding::key_in;
+use gaz_row_items::fault::{RowFault, WrongRow};
 use gaz_row_items::passages::passed_in;
 use sqlite::Row;
 use std::alloc::{AllocError, Global};
 
 // Which number a row names.
-fn uprn_in(row: &Row) -> Result<Uprn, RowFault>
+fn uprn_in(row: &Row) -> Result<Uprn, WrongRow>
     ensures said { IfOk result (λ uprn.
         key_named Kind.Blpu (text_in (column row.now 0)) ≡ Some (Key.Blpu uprn)) }
     ensures told { IsTold (NamesKey Kind.Blpu row.now 0) result }
 {
     match key_in(Kind::Blpu, row, 0)? {
         Key::Blpu(uprn) => Ok(uprn),
-        _ => Err(RowFault::Wrong),
+        _ => Err(WrongRow),
     }
 }
 
 /// What rows say, in turn: each has id, born, gone, live, street, hop, lang and body.
 ///
-/// Never `Wrong` where each says what became of a number, as a store's of kind 92 do; `Memory` where
-/// there is none for what they say.
+/// Never `Wrong` where each says what became of a number, as a store's of kind 92 do; `Memory`
+/// where there is none for what they say.
 pub fn passages_in(alloc: Global, rows: &[Row]) -> Result<Vec<Passage>, RowFault>
     ensures said { IfOk result (λ passages. SayPassages rows.now passages.items) }
     ensures told { IsToldOrMemory (Each ShowsPassed rows.now) result }

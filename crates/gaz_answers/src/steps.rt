@@ -15,7 +15,8 @@ use crate::sizes::MOST;
 use gaz_ids::Lang;
 use gaz_overlay::Overlay;
 use gaz_records::Kind;
-use gaz_row_items::decoding::{RowFault, key_in, number, text};
+use gaz_row_items::decoding::{key_in, number, text};
+use gaz_row_items::fault::{RowFault, WrongRow};
 use sqlite::Row;
 use std::alloc::Global;
 
@@ -28,7 +29,7 @@ pub enum Step {
 }
 
 // Whether a row of id and language says this language, or any where none is given.
-fn says_lang(row: &Row, lang: Option<Lang>) -> Result<bool, RowFault>
+fn says_lang(row: &Row, lang: Option<Lang>) -> Result<bool, WrongRow>
     ensures said { IfOk result (λ b. b ≡ says_lang lang row.now) }
     ensures told { IsTold (IsWhole (column row.now 1)) result }
 {
@@ -40,7 +41,7 @@ fn says_lang(row: &Row, lang: Option<Lang>) -> Result<bool, RowFault>
 }
 
 // Whether the key that a row names isn't passed over.
-fn leaves(passed: Option<&Overlay>, kind: Kind, row: &Row) -> Result<bool, RowFault>
+fn leaves(passed: Option<&Overlay>, kind: Kind, row: &Row) -> Result<bool, WrongRow>
     ensures said { IfOk result (λ b. b ≡ leaves
         (option_map (λ c. c.now) passed.entry) (key_named kind (text_in (column row.now 0)))) }
     ensures told { IsTold (NamesKey kind row.now 0) result }
@@ -52,7 +53,7 @@ fn leaves(passed: Option<&Overlay>, kind: Kind, row: &Row) -> Result<bool, RowFa
 }
 
 // Whether a row of a street says this language, at a key that isn't passed over.
-fn says_left(row: &Row, lang: Option<Lang>, passed: Option<&Overlay>) -> Result<bool, RowFault>
+fn says_left(row: &Row, lang: Option<Lang>, passed: Option<&Overlay>) -> Result<bool, WrongRow>
     ensures said { IfOk result
         (λ b. b ≡ says_left lang (option_map (λ c. c.now) passed.entry) row.now) }
     ensures told { IsTold (ShowsOnStreet row.now) result }
@@ -63,7 +64,7 @@ fn says_left(row: &Row, lang: Option<Lang>, passed: Option<&Overlay>) -> Result<
 }
 
 // Whether one of these rows says it.
-fn any_says(rows: &[Row], lang: Option<Lang>, passed: Option<&Overlay>) -> Result<bool, RowFault>
+fn any_says(rows: &[Row], lang: Option<Lang>, passed: Option<&Overlay>) -> Result<bool, WrongRow>
     ensures said { IfOk result (λ b. b ≡ list_any
         (says_left lang (option_map (λ c. c.now) passed.entry)) rows.now) }
     ensures told { IsTold (Each ShowsOnStreet rows.now) result }
@@ -77,7 +78,7 @@ fn any_says(rows: &[Row], lang: Option<Lang>, passed: Option<&Overlay>) -> Resul
 }
 
 // Whether one of these rows names a key of a kind that isn't passed over.
-fn any_names(rows: &[Row], kind: Kind, passed: Option<&Overlay>) -> Result<bool, RowFault>
+fn any_names(rows: &[Row], kind: Kind, passed: Option<&Overlay>) -> Result<bool, WrongRow>
     ensures said { IfOk result (λ b. b ≡ list_any
         (names_left kind (option_map (λ c. c.now) passed.entry)) rows.now) }
     ensures told { IsTold (Each (ShowsPart kind) rows.now) result }

@@ -6,18 +6,19 @@ ghost use Rattle.gaz_row_items.specs.Decoding.{Each, IsTold, IsToldOrMemory};
 ghost use Rattle.gaz_answers.specs.Volumes.{SayVolumes, ShowsVolume};
 
 use gaz_ids::{LAST_VOLUME, Volume};
-use gaz_row_items::decoding::{RowFault, number};
+use gaz_row_items::decoding::number;
+use gaz_row_items::fault::{RowFault, WrongRow};
 use sqlite::Row;
 use std::alloc::Global;
 
 // The volume that a row says.
-fn volume_in(row: &Row) -> Result<Volume, RowFault>
+fn volume_in(row: &Row) -> Result<Volume, WrongRow>
     ensures said { IfOk result (λ volume. column row.now 0 ≡ Int (pos volume)) }
     ensures told { IsTold (ShowsVolume row.now) result }
 {
     match Volume::of(number(row, 0)?) {
         Some(volume) => Ok(volume),
-        None => Err(RowFault::Wrong),
+        None => Err(WrongRow),
     }
 }
 

@@ -151,7 +151,7 @@ module _ {S : Type 0} {store : Ghosts S} where
       → ((HasCleanDisk (at sure) → HasTables (at sure).now) → Survives (at sure) (at asked) (Written (at sure) Becomes))
       → OnOk answer (LeavesTheCommit (at asked))
       → asked.failures ≡ sure.failures → asked.at_hand ≡ sure.at_hand
-      → Tells (SqliteFailure OutOfMemory) asked last answer result → AltersTables first last result Becomes
+      → Tells (λ e. e ≡ SqliteFailure OutOfMemory) asked last answer result → AltersTables first last result Becomes
   statement_alters {A} {B} first sure asked last one answer result Becomes before ready open_still written undone leaves certain same_count same_hand tells = record {
     alters = subst (λ h. Alters (at first) (state store h) result Becomes) (sym tells.conn)
         (alters_once (at first) (at sure) (at asked) one answer result Becomes before.asks ready.is_open ready.settled open_still written undone leaves certain tells.same tells.fault);

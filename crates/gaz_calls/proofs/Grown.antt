@@ -1,5 +1,6 @@
 -- What is told where a store's register grows.
-use Rattle.std.proofs.Common.{◌≡◌, ◌∙◌, inl, inr, ℕ, true, List, Result, Ok, refl, sym, subst}
+use Rattle.std.proofs.Common.{◌≡◌, ◌∙◌, inl, inr, ℕ, true, List, Result, Ok, Err, refl, sym, ap, subst}
+use Rattle.std.specs.Prelude.{IsErrAnd}
 use Rattle.std.proofs.lemmas.Bool.{cases_Bool}
 use Rattle.sqlite.specs.Effect.{Database}
 use Rattle.sqlite.specs.Held.{Held, state}
@@ -18,9 +19,10 @@ use Rattle.gaz_kept.specs.Opening.{IsOf}
 use Rattle.gaz_kept.specs.Rewriting.{Registers}
 use Rattle.gaz_kept.proofs.Rewritten.{rewrites_stand}
 use Rattle.gaz_calls.specs.Altering.{Alters, AltersTables}
-use Rattle.gaz_calls.specs.Asking.{Asks, AsksTablesOf, IsAnyway}
-use Rattle.gaz_calls.specs.Growing.{TellsRegisters, TellsWhose, as_keeper, of_keeper}
+use Rattle.gaz_calls.specs.Asking.{Asks, AsksTables, IsAnyway}
+use Rattle.gaz_calls.specs.Growing.{TellsRegisters, TellsWhose, as_keeper, as_kept, of_keeper}
 use Rattle.gaz_calls.specs.Seen.{IsUnharmed}
+use Rattle.gaz_calls.specs.declared.growing.ExtendFault.{ExtendFault}
 use Rattle.gaz_calls.specs.declared.tables.Tables.{Tables}
 use Rattle.gaz_calls.proofs.Altering.{alters_then}
 use Rattle.gaz_calls.proofs.Seeing.{tallies_then}
@@ -30,7 +32,7 @@ module _ {S : Type 0} {g : Ghosts S} where
   at t = state g t.conn
 
   -- what is written once it is known
-  pub alters_after : {IsSo : Database → Type 0} {A B : Type 0} (old mid new : Tables S g) (one : Result A ShelfFault) (r : Result B ShelfFault) (text : List ℕ) → AsksTablesOf IsSo old mid one IsAnyway → AltersTables mid new r (Registers text) → AltersTables old new r (Registers text)
+  pub alters_after : {A B : Type 0} (old mid new : Tables S g) (one : Result A ShelfFault) (r : Result B ShelfFault) (text : List ℕ) → AsksTables old mid one IsAnyway → AltersTables mid new r (Registers text) → AltersTables old new r (Registers text)
   alters_after old mid new one r text asks alters = record {
     alters = alters_then (at old) (at mid) (at new) one r IsAnyway (Registers text) (Registers text) asks.asks alters.alters (λ h db is. is);
     tallies = tallies_then old.failures mid.failures new.failures one r asks.tallies alters.tallies;
@@ -38,9 +40,19 @@ module _ {S : Type 0} {g : Ghosts S} where
   }
 
 -- a keeper's fault that is told is told as the keeper's
-pub as_it_was : (e : ShelfFault) → as_keeper (of_keeper e) ≡ e
+as_it_was : (e : ShelfFault) → as_keeper (of_keeper e) ≡ e
 as_it_was shelf.Memory = refl
 as_it_was shelf.Store = refl
+
+told_as : (r : Result (Unit {0}) ExtendFault) (e : ShelfFault) → IsErrAnd r (λ f. f ≡ of_keeper e) → as_kept r ≡ Err e
+told_as (Ok x) e h = absurd h
+told_as (Err f) e h = ap Err (ap as_keeper h ∙ as_it_was e)
+
+-- what isn't written, once it is known
+pub refused_after : {S : Type 0} {g : Ghosts S} {A : Type 0} (old mid new : Tables S g) (one : Result A ShelfFault) (r : Result (Unit {0}) ShelfFault) (e : ShelfFault) (result : Result (Unit {0}) ExtendFault) (text : List ℕ)
+    → AsksTables old mid one IsAnyway → AltersTables mid new r (Registers text) → r ≡ Err e → IsErrAnd result (λ f. f ≡ of_keeper e) → AltersTables old new (as_kept result) (Registers text)
+refused_after old mid new one r e result text asks alters is told =
+    subst (λ q. AltersTables old new q (Registers text)) (is ∙ sym (told_as result e told)) (alters_after old mid new one r text asks alters)
 
 -- ---- the register
 

@@ -10,7 +10,7 @@ pub mod Numbering
 pub mod Altering
 pub mod Recounting
 pub mod Receiving
-pub mod Noting
 pub mod PassagesTold
 pub mod Grown
 pub mod WorkedGrowing
+pub mod WorkedAsking

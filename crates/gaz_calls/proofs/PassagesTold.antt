@@ -1,6 +1,6 @@
 -- What is told of a custodian's numbers, number by number and for each volume by volume.
 use Rattle.std.proofs.Common.{◌≡◌, ◌∙◌, ◌≤◌, ◌<◌, ◌+◌, ◌⊎◌, ◌==◌, ℕ, pos, ◌<ℤ◌, Bool, true, false, not, List, [], ◌∷◌, length, map, take, suc, zero, inl, inr, refl, sym, ap, subst, arith, true≢false}
-use Rattle.std.proofs.lemmas.Bool.{and_parts, cases_lt, ne_eqb}
+use Rattle.std.proofs.lemmas.Bool.{cases_lt, ne_eqb}
 use Rattle.std.proofs.lemmas.Int.{ints}
 use Rattle.std.specs.Prelude.{⊤, Option, Some, None, IsSorted}
 use Rattle.std.proofs.lemmas.Cmp.{on_total}
@@ -23,11 +23,8 @@ use Rattle.gaz_records.specs.Keys.{kind_number, text_in as text_of}
 use Rattle.gaz_records.specs.declared.item.Kind.TheVariants as kind
 use Rattle.gaz_records.specs.declared.key.Key.TheVariants as key
 use Rattle.gaz_cells.proofs.Ids.{ids_apart, ids_back}
-use Rattle.gaz_cells.specs.Custody.{custody_cells, is_custody, told_in}
+use Rattle.gaz_cells.specs.Custody.{told_in}
 use Rattle.gaz_cells.specs.Ids.{id_of, is_key, key_named}
-use Rattle.gaz_ids.specs.Numbers.{in_range}
-use Rattle.gaz_views.specs.declared.custody.Custody.{Custody}
-use Rattle.gaz_views.specs.declared.custody.Custody.TheVariants.{Adopted, Released}
 use Rattle.gaz_overlay.specs.Passages.{PassageRow}
 use Rattle.gaz_sql_facts.proofs.Lists.{first_least, has_permuted, permuted_has}
 use Rattle.gaz_tables.specs.Custody.{FindsCustodyBehind, IsCustodyBehind, by_id_and_birth, listed_shown}
@@ -36,6 +33,7 @@ use Rattle.gaz_tables.specs.Schema.{version2}
 use Rattle.gaz_tables.specs.Versions as table
 use Rattle.gaz_tables.specs.Tables.{rows_of}
 use Rattle.gaz_row_items.specs.Versions.{custody_cells_in, number_in, passage_in, passing, text_in}
+use Rattle.gaz_kept.proofs.NewestPassages.{told_back}
 use Rattle.gaz_kept.specs.Kept.{IsKept}
 use Rattle.gaz_kept.proofs.PassageStatements.{Known, its_owner, kind_passage, known_of, passage_row}
 use Rattle.gaz_kept.proofs.PassageStatements as said
@@ -101,10 +99,6 @@ int_less a b less = by_order (value_cmp (Int (pos a)) (Int (pos b))) (subst (λ 
 -- ---- rows and what they say of a custodian's numbers
 
 -- what cells of what became of a number tell
-told_back : (n : ℕ) (x : Custody) → is_custody x ≡ true → told_in (custody_cells n x) ≡ Some x
-told_back n (Released to hop) such = let both = and_parts (in_range 1 9999 to) (in_range 1 9999 hop) such in rw (both.0, both.1) refl
-told_back n (Adopted from hop) such = let both = and_parts (in_range 1 9999 from) (in_range 1 9999 hop) such in rw (both.0, both.1) refl
-
 ranks : IsStrictWeakOrder (λ (a b : Row). is_lt (by_id_and_birth a b))
 ranks = ranks_by (then_total (on_total (λ (r : Row). table.id_of r) value_cmp_total) (on_total (λ (r : Row). table.born_of r) value_cmp_total)) (λ (r : Row). r)
 

@@ -3,8 +3,6 @@ use Rattle.std.proofs.Common.{◌≡◌, ◌≢◌, ◌∙◌, inl, inr, ℕ, Li
 use Rattle.std.proofs.lemmas.Bool.{cases_eq}
 use Rattle.std.proofs.lemmas.Result.{IfErr-at_err}
 use Rattle.std.specs.Prelude.{Option, Some, None, IfSome}
-use Rattle.std.specs.BTreeMap.{get}
-use Rattle.std.specs.Ordering.{nat_cmp}
 use Rattle.sqlite.specs.Effect.{Database}
 use Rattle.sqlite.specs.Held.{state}
 use Rattle.sqlite.specs.Order.{Row}
@@ -19,11 +17,13 @@ use Rattle.gaz_kept.specs.Contents.{board_of}
 use Rattle.gaz_kept.specs.Kept.{IsKept}
 use Rattle.gaz_kept.proofs.Boards.{board_reads}
 use Rattle.gaz_calls.specs.Asking.{Asks, AsksTables, Recalls, Tallies}
-use Rattle.gaz_calls.specs.Remembered.{AreSo, IsSo, Remembered}
+use Rattle.gaz_calls.specs.Remembered.{AreSo, IsSo}
+use Rattle.gaz_counts.specs.declared.counts.Counts.{Counts}
 use Rattle.gaz_calls.specs.Seen.{IsUnharmed}
-use Rattle.gaz_calls.specs.declared.at_hand.AtHand.{AtHand}
+use Rattle.gaz_counts.specs.Counts.{Notes, noted}
+use Rattle.gaz_counts.specs.declared.at_hand.AtHand.{AtHand}
 use Rattle.gaz_calls.specs.declared.tables.Tables.{Tables}
-use Rattle.gaz_calls.proofs.Seeing.{asks_as, asks_nothing, asks_then, tallies_then}
+use Rattle.gaz_calls.proofs.Seeing.{asks_as, asks_nothing, asks_then, quiet_later, tallies_then}
 
 pub if_some_at : {X : Type 0} (o : Option X) (x : X) (P : X → Type 0) → o ≡ Some x → IfSome o P → P x
 if_some_at o x P is h = subst (λ p. IfSome p P) is h
@@ -33,12 +33,11 @@ if_some (Some x) P Q f h = f x refl h
 if_some None P Q f h = tt
 
 -- counts that are so are at hand with the others
-noted_so : (before after : Remembered) (c : ℕ) (h : AtHand) (files : List Row) → IfSome (get nat_cmp after c) (λ x. x ≡ h)
-    → ((d : ℕ) → d ≢ c → IfSome (get nat_cmp after d) (λ x. get nat_cmp before d ≡ Some x)) → IsSo files c h → AreSo before files → AreSo after files
-noted_so before after c h files own others is so d = elim (cases_eq d c) [
-  | inl here ↦ subst (λ e. IfSome (get nat_cmp after e) (IsSo files e)) (sym here)
-      (if_some (get nat_cmp after c) (λ x. x ≡ h) (IsSo files c) (λ x there same. subst (IsSo files c) (sym same) is) own)
-  | inr other ↦ if_some (get nat_cmp after d) (λ x. get nat_cmp before d ≡ Some x) (IsSo files d) (λ x there was. if_some_at (get nat_cmp before d) x (IsSo files d) was (so d)) (others d other)
+noted_so : (before after : Counts) (c : ℕ) (h : AtHand) (files : List Row) → Notes c h before after → IsSo files c h → AreSo before files → AreSo after files
+noted_so before after c h files notes is so d = elim (cases_eq d c) [
+  | inl here ↦ subst (λ e. IfSome (noted after e) (IsSo files e)) (sym here)
+      (if_some (noted after c) (λ x. x ≡ h) (IsSo files c) (λ x there same. subst (IsSo files c) (sym same) is) notes.own)
+  | inr other ↦ if_some (noted after d) (λ x. noted before d ≡ Some x) (IsSo files d) (λ x there was. if_some_at (noted before d) x (IsSo files d) was (so d)) (notes.others d other)
 ]
 
 module _ {S : Type 0} {store : Ghosts S} where
@@ -46,11 +45,11 @@ module _ {S : Type 0} {store : Ghosts S} where
   at t = state store t.conn
 
   -- an answer that is at hand
-  pub at_hand_already : (t : Tables S store) (c : ℕ) (h : AtHand) → Some h ≡ get nat_cmp t.at_hand c → Recalls t t (Ok h) (λ db x. IsSo (rows_of db received) c x)
+  pub at_hand_already : (t : Tables S store) (c : ℕ) (h : AtHand) → Some h ≡ noted t.at_hand c → Recalls t t (Ok h) (λ db x. IsSo (rows_of db received) c x)
   at_hand_already t c h is = record {
     asks = asks_nothing (at t) (Ok h) (λ db x. AreSo t.at_hand (rows_of db received) → IsSo (rows_of db received) c x)
-        (λ u kept so. if_some_at (get nat_cmp t.at_hand c) h (IsSo (rows_of (at t).now received) c) (sym is) (so c));
-    served = λ quiet kept so. tt;
+        (λ u kept so. if_some_at (noted t.at_hand c) h (IsSo (rows_of (at t).now received) c) (sym is) (so c));
+    served = λ quiet kept. tt;
     tallies = record { kept = omega arith; store = tt };
     at_hand = λ u kept so. so;
   }
@@ -61,7 +60,7 @@ module _ {S : Type 0} {store : Ghosts S} where
     asks = asks_as (at old) (at new) r r R (λ db x. AreSo old.at_hand (rows_of db received) → R db x) asks.asks (λ db kept. anyway db r);
     served = asks.served;
     tallies = asks.tallies;
-    at_hand = λ u kept so. subst (λ (m : Remembered). AreSo m (rows_of (at old).now received)) (sym asks.at_hand) so;
+    at_hand = λ u kept so. subst (λ (m : Counts). AreSo m (rows_of (at old).now received)) (sym asks.at_hand) so;
   }
     where
       anyway : (db : Database) (r : Result T ShelfFault) → IfOk r (R db) → IfOk r (λ x. AreSo old.at_hand (rows_of db received) → R db x)
@@ -74,9 +73,9 @@ module _ {S : Type 0} {store : Ghosts S} where
   recalls_more {A} {B} old mid new one two a P Q R before is after goes = record {
     asks = asks_then (at old) (at mid) (at new) one two two (λ db y. AreSo old.at_hand (rows_of db received) → P db y) Q (λ db y. AreSo old.at_hand (rows_of db received) → R db y) before.asks after.asks
         (λ db kept was now. by_result db kept (subst (λ (r : Result A ShelfFault). IfOk r (λ y. AreSo old.at_hand (rows_of db received) → P db y)) is was) two now);
-    served = λ quiet kept so. after.served quiet (subst IsKept (sym (before.asks.rests (after.asks.harm quiet.unharmed) kept.tables)) kept) tt;
+    served = λ quiet kept. after.served (quiet_later (at old) (at mid) (at new) (before.asks.leaves (λ h. kept.tables)) quiet) (subst IsKept (sym (before.asks.rests (after.asks.harm quiet.unharmed) kept.tables)) kept);
     tallies = tallies_then old.failures mid.failures new.failures one two before.tallies after.tallies;
-    at_hand = λ u kept so. subst (λ (m : Remembered). AreSo m (rows_of (at old).now received)) (sym after.at_hand) (before.at_hand (after.asks.harm u) kept so);
+    at_hand = λ u kept so. subst (λ (m : Counts). AreSo m (rows_of (at old).now received)) (sym after.at_hand) (before.at_hand (after.asks.harm u) kept so);
   }
     where
       by_result : (db : Database) → IsKept db → (AreSo old.at_hand (rows_of db received) → P db a) → (r : Result B ShelfFault) → IfOk r (Q db) → IfOk r (λ y. AreSo old.at_hand (rows_of db received) → R db y)
@@ -88,7 +87,7 @@ module _ {S : Type 0} {store : Ghosts S} where
       → Recalls old new two Q → two ≡ Err e → Recalls old new (Err e) R
   recalls_fault {B} {T} old new two e Q R recalls is = record {
     asks = asks_as (at old) (at new) two (Err e) (λ db y. AreSo old.at_hand (rows_of db received) → Q db y) (λ db (y : T). AreSo old.at_hand (rows_of db received) → R db y) recalls.asks (λ db kept was. tt);
-    served = λ quiet kept so. IfErr-at_err (λ f. f ≢ Store) is (recalls.served quiet kept so);
+    served = λ quiet kept. IfErr-at_err (λ f. f ≢ Store) is (recalls.served quiet kept);
     tallies = record { kept = recalls.tallies.kept; store = (subst (λ (r : Result B ShelfFault). Tallies old.failures new.failures r) is recalls.tallies).store };
     at_hand = recalls.at_hand;
   }
@@ -97,17 +96,17 @@ module _ {S : Type 0} {store : Ghosts S} where
   pub recalls_noting : {A T : Type 0} (old mid new : Tables S store) (one : Result A ShelfFault) (a : A) (c : ℕ) (h : AtHand) (x : T) (P : Database → A → Type 0) (R : Database → T → Type 0)
       → Recalls old mid one P → one ≡ Ok a → ((db : Database) → IsKept db → P db a → IsSo (rows_of db received) c h × R db x)
       → new.conn ≡ mid.conn → new.failures ≡ mid.failures
-      → IfSome (get nat_cmp new.at_hand c) (λ y. y ≡ h) → ((d : ℕ) → d ≢ c → IfSome (get nat_cmp new.at_hand d) (λ y. get nat_cmp mid.at_hand d ≡ Some y))
+      → Notes c h mid.at_hand new.at_hand
       → Recalls old new (Ok x) R
-  recalls_noting {A} {T} old mid new one a c h x P R before is goes conn failures own others = record {
+  recalls_noting {A} {T} old mid new one a c h x P R before is goes conn failures notes = record {
     asks = subst (λ t. Asks (at old) (state store t) (Ok x) (λ db y. AreSo old.at_hand (rows_of db received) → R db y)) (sym conn)
         (asks_as (at old) (at mid) one (Ok x) (λ db y. AreSo old.at_hand (rows_of db received) → P db y) (λ db y. AreSo old.at_hand (rows_of db received) → R db y) before.asks
         (λ db kept was so. (goes db kept (told db was so)).1));
-    served = λ quiet kept so. tt;
+    served = λ quiet kept. tt;
     tallies = subst (λ (n : ℕ). Tallies old.failures n (Ok x)) (sym failures) (record { kept = before.tallies.kept; store = tt });
     at_hand = λ u kept so.
         let v = subst (λ t. IsUnharmed (state store t)) conn u in
-        noted_so mid.at_hand new.at_hand c h (rows_of (at old).now received) own others (goes (at old).now kept (told (at old).now (before.asks.right v kept) so)).0 (before.at_hand v kept so);
+        noted_so mid.at_hand new.at_hand c h (rows_of (at old).now received) notes (goes (at old).now kept (told (at old).now (before.asks.right v kept) so)).0 (before.at_hand v kept so);
   }
     where
       told : (db : Database) → IfOk one (λ y. AreSo old.at_hand (rows_of db received) → P db y) → AreSo old.at_hand (rows_of db received) → P db a
@@ -119,7 +118,7 @@ module _ {S : Type 0} {store : Ghosts S} where
   recalled {A} {T} old new one a x P R recalls is goes = record {
     asks = asks_as (at old) (at new) one (Ok x) (λ db y. AreSo old.at_hand (rows_of db received) → P db y) (λ db y. AreSo old.at_hand (rows_of db received) → R db y) recalls.asks
         (λ db kept was so. goes db kept (subst (λ (r : Result A ShelfFault). IfOk r (λ y. AreSo old.at_hand (rows_of db received) → P db y)) is was so));
-    served = λ quiet kept so. tt;
+    served = λ quiet kept. tt;
     tallies = record { kept = recalls.tallies.kept; store = tt };
     at_hand = recalls.at_hand;
   }

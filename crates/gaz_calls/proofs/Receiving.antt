@@ -21,8 +21,10 @@ use Rattle.gaz_kept.specs.Stands.{next_in}
 use Rattle.gaz_kept.proofs.Boards.{board_reads}
 use Rattle.gaz_kept.proofs.Stands.{judges}
 use Rattle.gaz_calls.specs.Altering.{Alters, AltersTables, Writes}
-use Rattle.gaz_calls.specs.Asking.{Asks, Fails, IsAny, IsServed, Recalls, Tallies}
-use Rattle.gaz_calls.specs.Remembered.{AreSo, OneJudged, OneMore, Recounts, Remembered}
+use Rattle.gaz_calls.specs.Asking.{Asks, Fails, IsServed, Recalls, Tallies}
+use Rattle.gaz_calls.specs.Remembered.{AreSo}
+use Rattle.gaz_counts.specs.Counts.{OneJudged, OneMore, Recounts}
+use Rattle.gaz_counts.specs.declared.counts.Counts.{Counts}
 use Rattle.gaz_calls.specs.Seen.{IsUnharmed}
 use Rattle.gaz_calls.specs.Writing.{Comes, IsNewIn, IsNextIn, WhereSo}
 use Rattle.gaz_calls.specs.declared.tables.Tables.{Tables}
@@ -65,7 +67,7 @@ module _ {S : Type 0} {store : Ghosts S} where
     tallies = tallies;
     at_hand = λ h kept so fresh. on_result r _ _ _ _ (AreSo new.at_hand (rows_of (at new).now received)) (alters.done h kept.tables) (alters.undone h kept.tables) noted same
         (λ changes counts. come_so c v bytes (at old).now (at new).now old.at_hand new.at_hand range.0 range.1 kept fresh changes counts so)
-        (λ still stays. subst (λ (m : Remembered). AreSo m (rows_of (at new).now received)) (sym stays) (subst (λ (db : Database). AreSo old.at_hand (rows_of db received)) (sym still) so));
+        (λ still stays. subst (λ (m : Counts). AreSo m (rows_of (at new).now received)) (sym stays) (subst (λ (db : Database). AreSo old.at_hand (rows_of db received)) (sym still) so));
   }
 
   pub received_ok : {T : Type 0} (old mid new : Tables S store) (r : Result T ShelfFault) (x : T) (c v : ℕ) (bytes : List ℕ) → (1 ≤ v) × (v ≤ 999_999)
@@ -75,7 +77,7 @@ module _ {S : Type 0} {store : Ghosts S} where
       let done : Result T ShelfFault = Ok x in
       let here = subst (λ r. AltersTables old mid r (Comes c v bytes)) is alters in
       comes old new done c v bytes range (subst (λ h. Alters (at old) (state store h) done (Comes c v bytes)) (sym conn) here.alters) (subst (λ (n : ℕ). Tallies old.failures n done) (sym failures) here.tallies)
-      (subst (λ (m : Remembered). Recounts c OneMore m new.at_hand) here.at_hand counts) tt
+      (subst (λ (m : Counts). Recounts c OneMore m new.at_hand) here.at_hand counts) tt
 
   -- ---- a volume is judged
 
@@ -94,7 +96,7 @@ module _ {S : Type 0} {store : Ghosts S} where
           (λ changes counts.
           judged_so c verdict (rows_of (at old).now received) (rows_of (at new).now received) mid.at_hand new.at_hand
           (judged (at old).now (at new).now kept there (changes kept so)) there counts (recalls.at_hand (alters.harm h) kept so))
-          (λ still stays. subst (λ (m : Remembered). AreSo m (rows_of (at new).now received)) (sym stays)
+          (λ still stays. subst (λ (m : Counts). AreSo m (rows_of (at new).now received)) (sym stays)
           (subst (λ (db : Database). AreSo mid.at_hand (rows_of db received)) (sym still) (recalls.at_hand (alters.harm h) kept so)));
     }
       where
@@ -117,7 +119,7 @@ module _ {S : Type 0} {store : Ghosts S} where
         let here = subst (λ r. AltersTables mid noted r (Makes next)) is alters in
         judges_next old mid new done n next is_next before
         (subst (λ h. Alters (at mid) (state store h) done (Makes next)) (sym conn) here.alters) (subst (λ (n : ℕ). Tallies mid.failures n done) (sym failures) here.tallies)
-        (subst (λ (m : Remembered). Recounts c OneJudged m new.at_hand) here.at_hand counts) tt
+        (subst (λ (m : Counts). Recounts c OneJudged m new.at_hand) here.at_hand counts) tt
 
     pub judged_err : (old mid new : Tables S store) (first : Result ℕ ShelfFault) (r : Result T ShelfFault) (e : ShelfFault) (n next : ℕ) → next ≡ n + 1
         → Recalls old mid first (Recalled c) → first ≡ Ok n → AltersTables mid new r (Makes next) → r ≡ Err e
@@ -151,9 +153,9 @@ module _ {S : Type 0} {store : Ghosts S} where
       writes_not {T = T} old new one e P IsAsked Becomes
       (record {
         asks = subst (λ h. Asks (at old) (state store h) one (λ db x. AreSo old.at_hand (rows_of db received) → P db x)) (sym fails.conn) recalls.asks;
-        served = subst (λ h. IsServed IsAny (at old) (state store h) one) (sym fails.conn) recalls.served;
+        served = subst (λ h. IsServed (at old) (state store h) one) (sym fails.conn) recalls.served;
         tallies = record { kept = omega (arith, recalls.tallies.kept, fails.kept); store = later one recalls.tallies.store };
-        at_hand = λ h kept so. subst (λ (m : Remembered). AreSo m (rows_of (at old).now received)) (sym fails.at_hand) (recalls.at_hand (subst (λ h. IsUnharmed (state store h)) fails.conn h) kept so);
+        at_hand = λ h kept so. subst (λ (m : Counts). AreSo m (rows_of (at old).now received)) (sym fails.at_hand) (recalls.at_hand (subst (λ h. IsUnharmed (state store h)) fails.conn h) kept so);
       })
       (record { kept = omega (arith, recalls.tallies.kept, fails.kept); store = λ is. let more = fails.counted is in omega (arith, recalls.tallies.kept, more) })
     where

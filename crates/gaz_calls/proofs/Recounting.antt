@@ -5,10 +5,9 @@ use Rattle.std.proofs.Math.Bool.{and-false}
 use Rattle.std.proofs.lemmas.Bool.{cases_eq, le-leb, leb-true, ne_eqb}
 use Rattle.std.proofs.lemmas.Bool.Decides.{leb_tells}
 use Rattle.std.proofs.lemmas.List.{length-append}
-use Rattle.std.specs.BTreeMap.{get}
 use Rattle.std.specs.Cmp.{both_ways, tied_itself}
 use Rattle.std.specs.FinMap as finite
-use Rattle.std.specs.Ordering.{is_eq, nat_cmp}
+use Rattle.std.specs.Ordering.{is_eq}
 use Rattle.sqlite.specs.Effect.{Database}
 use Rattle.sqlite.specs.declared.types.Value.TheVariants.{Int}
 use Rattle.sqlite.specs.Edit.{next_rowid}
@@ -23,8 +22,10 @@ use Rattle.gaz_tables.specs.Tables.{rows_of}
 use Rattle.gaz_kept.specs.Files.{Judged, files_in, reached_in, verdicts_in}
 use Rattle.gaz_kept.specs.Judging.{Arrives, IsJudged}
 use Rattle.gaz_kept.specs.Kept.{IsKept}
-use Rattle.gaz_calls.specs.Remembered.{AreSo, IsSo, OneJudged, OneMore, Recounts, Remembered, held_in}
-use Rattle.gaz_calls.specs.declared.at_hand.AtHand.{AtHand}
+use Rattle.gaz_calls.specs.Remembered.{AreSo, IsSo, held_in}
+use Rattle.gaz_counts.specs.declared.counts.Counts.{Counts}
+use Rattle.gaz_counts.specs.Counts.{OneJudged, OneMore, Recounts, noted}
+use Rattle.gaz_counts.specs.declared.at_hand.AtHand.{AtHand}
 use Rattle.gaz_calls.proofs.Counts.{above_true, counts_one_more, counts_same, is_above, is_same, same, waits}
 use Rattle.gaz_kept.proofs.Judging.{files_change}
 use Rattle.gaz_kept.proofs.Stands.{are_files}
@@ -101,18 +102,18 @@ judged_here files c n there = counts_one_more files files c (n + 1) n (c, n + 1)
 -- ---- what is at hand
 
 -- of a custodian whose rows say the same
-so_elsewhere : (before after : Remembered) (c : ℕ) (Becomes : AtHand → AtHand → Type 0) (old new : List Row) → Recounts c Becomes before after → AreSo before old
-    → (d : ℕ) → d ≢ c → reached_in new d ≡ reached_in old d → held_in new d ≡ held_in old d → IfSome (get nat_cmp after d) (IsSo new d)
+so_elsewhere : (before after : Counts) (c : ℕ) (Becomes : AtHand → AtHand → Type 0) (old new : List Row) → Recounts c Becomes before after → AreSo before old
+    → (d : ℕ) → d ≢ c → reached_in new d ≡ reached_in old d → held_in new d ≡ held_in old d → IfSome (noted after d) (IsSo new d)
 so_elsewhere before after c Becomes old new counts so d other reached held =
-    if_some (get nat_cmp after d) (λ h. get nat_cmp before d ≡ Some h) (IsSo new d)
-    (λ h is was. let s = if_some_at (get nat_cmp before d) h (IsSo old d) was (so d) in record { reached = s.reached ∙ sym reached; held = if_some h.held (λ n. n ≡ held_in old d) (λ n. n ≡ held_in new d) (λ n some waits. waits ∙ sym held) s.held })
+    if_some (noted after d) (λ h. noted before d ≡ Some h) (IsSo new d)
+    (λ h is was. let s = if_some_at (noted before d) h (IsSo old d) was (so d) in record { reached = s.reached ∙ sym reached; held = if_some h.held (λ n. n ≡ held_in old d) (λ n. n ≡ held_in new d) (λ n some waits. waits ∙ sym held) s.held })
     (counts.others d other)
 
-so_here : (before after : Remembered) (c : ℕ) (Becomes : AtHand → AtHand → Type 0) (old new : List Row) → Recounts c Becomes before after → AreSo before old
-    → ((was h : AtHand) → Becomes was h → IsSo old c was → IsSo new c h) → IfSome (get nat_cmp after c) (IsSo new c)
+so_here : (before after : Counts) (c : ℕ) (Becomes : AtHand → AtHand → Type 0) (old new : List Row) → Recounts c Becomes before after → AreSo before old
+    → ((was h : AtHand) → Becomes was h → IsSo old c was → IsSo new c h) → IfSome (noted after c) (IsSo new c)
 so_here before after c Becomes old new counts so goes =
-    if_some (get nat_cmp after c) (λ h. (was : AtHand) × (get nat_cmp before c ≡ Some was) × Becomes was h) (IsSo new c)
-    (λ h is it. goes it.0 h it.2 (if_some_at (get nat_cmp before c) it.0 (IsSo old c) it.1 (so c)))
+    if_some (noted after c) (λ h. (was : AtHand) × (noted before c ≡ Some was) × Becomes was h) (IsSo new c)
+    (λ h is it. goes it.0 h it.2 (if_some_at (noted before c) it.0 (IsSo old c) it.1 (so c)))
     counts.own
 
 -- where it is at hand how many waited, there is one more
@@ -129,7 +130,7 @@ one_less : (was now : Option ℕ) (a b : ℕ) → IfSome now (λ n. was ≡ Some
 one_less was None a b one so step = tt
 one_less was (Some n) a b one so step = let there : n + 1 ≡ a = if_some_at was (n + 1) (λ m. m ≡ a) one so in omega (arith, there, step)
 
-module _ (c v : ℕ) (bytes : List ℕ) (old new : Database) (before after : Remembered) (first : 1 ≤ v) (last : v ≤ 999_999) (kept : IsKept old)
+module _ (c v : ℕ) (bytes : List ℕ) (old new : Database) (before after : Counts) (first : 1 ≤ v) (last : v ≤ 999_999) (kept : IsKept old)
     (fresh : finite.get (files_in (rows_of old received)) (c, v) ≡ None) (changes : ChangesTable received (AddsRow (unjudged c v bytes)) old new)
     (counts : Recounts c OneMore before after) (so : AreSo before (rows_of old received)) where
   arrives : Arrives c v bytes (rows_of old received) (rows_of new received)
@@ -151,7 +152,7 @@ module _ (c v : ℕ) (bytes : List ℕ) (old new : Database) (before after : Rem
 
   pub come_so : AreSo after (rows_of new received)
   come_so d = elim (cases_eq d c) [
-    | inl here ↦ subst (λ e. IfSome (get nat_cmp after e) (IsSo (rows_of new received) e)) (sym here)
+    | inl here ↦ subst (λ e. IfSome (noted after e) (IsSo (rows_of new received) e)) (sym here)
         (so_here before after c OneMore (rows_of old received) (rows_of new received) counts so (λ was h one s. record {
           reached = one.reached ∙ s.reached ∙ sym (same_reached c);
           held = one_more was.held h.held (held_in (rows_of old received) c) (held_in (rows_of new received) c) one.held s.held
@@ -161,7 +162,7 @@ module _ (c v : ℕ) (bytes : List ℕ) (old new : Database) (before after : Rem
         (held_now d ∙ come_elsewhere (files_in (rows_of old received)) c v bytes d other (reached_in (rows_of old received) d))
   ]
 
-module _ (c : ℕ) (verdict : Verdict) (old new : List Row) (before after : Remembered) (judges : IsJudged c (reached_in old c + 1) verdict old new)
+module _ (c : ℕ) (verdict : Verdict) (old new : List Row) (before after : Counts) (judges : IsJudged c (reached_in old c + 1) verdict old new)
     (there : IsSome (finite.get (files_in old) (c, reached_in old c + 1))) (counts : Recounts c OneJudged before after) (so : AreSo before old) where
   abbrev n : ℕ
   n = reached_in old c
@@ -174,7 +175,7 @@ module _ (c : ℕ) (verdict : Verdict) (old new : List Row) (before after : Reme
 
   pub judged_so : AreSo after new
   judged_so d = elim (cases_eq d c) [
-    | inl here ↦ subst (λ e. IfSome (get nat_cmp after e) (IsSo new e)) (sym here)
+    | inl here ↦ subst (λ e. IfSome (noted after e) (IsSo new e)) (sym here)
         (so_here before after c OneJudged old new counts so (λ was h one s.
         let reached = s.reached in
         let more = one.reached in

@@ -13,7 +13,7 @@ use Rattle.sqlite_trees.specs.View.{doubt}
 use Rattle.gaz_keeper.specs.declared.fault.ShelfFault.{ShelfFault}
 use Rattle.gaz_keeper.specs.declared.fault.ShelfFault.TheVariants.{Memory, Store}
 use Rattle.gaz_sql_facts.specs.Changes.{IsSpared}
-use Rattle.gaz_sql_facts.specs.Reasons.{HasReason}
+use Rattle.gaz_sql_facts.specs.Reasons.{HasReason, IsHindered}
 use Rattle.gaz_tables.specs.Stores.{HasTables}
 use Rattle.gaz_calls.specs.Asking.{Asks, IsNoFailure, Tallies}
 use Rattle.gaz_kept.specs.Kept.{IsKept}
@@ -86,35 +86,35 @@ tallies_then {A} {T} first second last one r before after = record { kept = omeg
 
 -- ---- what has no reason to fail
 
--- nothing had failed before
-pub quiet_before : (old new : State) → Survives old new (λ _. ⊥) → (IsUnharmed new → IsUnharmed old) → IsQuiet new → IsQuiet old
-quiet_before old new s harm quiet = let counts = s.counts in let none = quiet.faultless in record {
-  unharmed = harm quiet.unharmed;
-  faultless = omega (arith, counts, none);
-  unlimited = sym s.limit ∙ quiet.unlimited;
+-- where nothing failed, nothing failed later
+pub quiet_later : (old mid new : State) → Survives old mid (λ _. ⊥) → IsQuiet old new → IsQuiet mid new
+quiet_later old mid new s quiet = let counts = s.counts in record {
+  unharmed = quiet.unharmed;
+  faultless = λ more. quiet.faultless (omega (arith, counts, more));
+  unlimited = quiet.unlimited;
 }
 
--- a call that asks left it so
-pub quiet_asked : {T : Type 0} (old new : State) (r : Result T ShelfFault) (P : Database → T → Type 0) → Asks old new r P → HasTables old.now → IsQuiet new → IsQuiet old
-quiet_asked old new r P asks has quiet = quiet_before old new (asks.leaves (λ h. has)) asks.harm quiet
+-- what is asked of an open connection where nothing fails isn't hindered
+pub unhindered : (old new : State) → Survives old new (λ _. ⊥) → IsTrue old.is_open → IsQuiet old new → ¬ IsHindered old new
+unhindered old new s is_open quiet (inl more) = quiet.faultless more
+unhindered old new s is_open quiet (inr (inl shut)) = absurd (true≢false (sym is_open ∙ shut))
+unhindered old new s is_open quiet (inr (inr limited)) = absurd (true≢false (sym (subst IsSome (sym s.limit ∙ quiet.unlimited) limited)))
 
--- what is asked of a connection where nothing fails can but want memory
-pub reason_is : (old new : State) → Survives old new (λ _. ⊥) → IsTrue old.is_open → IsQuiet new → (e : Error) → HasReason old new e → e ≡ SqliteFailure OutOfMemory
+-- so it can but want memory
+pub reason_is : (old new : State) → Survives old new (λ _. ⊥) → IsTrue old.is_open → IsQuiet old new → (e : Error) → HasReason old new e → e ≡ SqliteFailure OutOfMemory
 reason_is old new s is_open quiet e (inl want) = want
-reason_is old new s is_open quiet e (inr (inl more)) = absurd (let none = quiet.faultless in omega (arith, more, none))
-reason_is old new s is_open quiet e (inr (inr (inl shut))) = absurd (true≢false (sym is_open ∙ shut))
-reason_is old new s is_open quiet e (inr (inr (inr limited))) = absurd (true≢false (sym (subst IsSome (sym s.limit ∙ quiet.unlimited) limited)))
+reason_is old new s is_open quiet e (inr hindered) = absurd (unhindered old new s is_open quiet hindered)
 
 -- an error that is want of memory is told as that
-pub wants : {A T E : Type 0} (answer : Result A E) (want : E) (result : Result T ShelfFault) → OnErr result (OnOk answer ⊥) → (answer ≡ Err want → result ≡ Err Memory) → IfErr answer (λ e. e ≡ want) → IsNoFailure result
-wants answer want (Ok x) fault memory is = tt
-wants (Ok x) want (Err e) fault memory is = absurd fault
-wants {T = T} (Err f) want (Err e) fault memory is = λ store. let same : ◌≡◌ {A = Result T ShelfFault} (Err Store) (Err Memory) = sym (ap Err store) ∙ memory (ap Err is) in absurd (cc)
+pub wants : {A T E : Type 0} (answer : Result A E) (IsWant : E → Type 0) (result : Result T ShelfFault) → OnErr result (OnOk answer ⊥) → ((e : E) → IsWant e → answer ≡ Err e → result ≡ Err Memory) → IfErr answer IsWant → IsNoFailure result
+wants answer IsWant (Ok x) fault memory is = tt
+wants (Ok x) IsWant (Err e) fault memory is = absurd fault
+wants {T = T} (Err f) IsWant (Err e) fault memory is = λ store. let same : ◌≡◌ {A = Result T ShelfFault} (Err Store) (Err Memory) = sym (ap Err store) ∙ memory f is refl in absurd (cc)
 
-pub query_served : {A T : Type 0} (old new : State) (answer : Result A Error) (result : Result T ShelfFault) → Survives old new (λ _. ⊥) → IsTrue old.is_open → IsQuiet new
-    → IfErr answer (HasReason old new) → OnErr result (OnOk answer ⊥) → (answer ≡ Err (SqliteFailure OutOfMemory) → result ≡ Err Memory) → IsNoFailure result
+pub query_served : {A T : Type 0} (old new : State) (answer : Result A Error) (result : Result T ShelfFault) → Survives old new (λ _. ⊥) → IsTrue old.is_open → IsQuiet old new
+    → IfErr answer (HasReason old new) → OnErr result (OnOk answer ⊥) → ((e : Error) → e ≡ SqliteFailure OutOfMemory → answer ≡ Err e → result ≡ Err Memory) → IsNoFailure result
 query_served old new answer result s is_open quiet reason fault memory =
-    wants answer (SqliteFailure OutOfMemory) result fault memory (IfErr-weaker answer (HasReason old new) (λ e. e ≡ SqliteFailure OutOfMemory) (reason_is old new s is_open quiet) reason)
+    wants answer (λ e. e ≡ SqliteFailure OutOfMemory) result fault memory (IfErr-weaker answer (HasReason old new) (λ e. e ≡ SqliteFailure OutOfMemory) (reason_is old new s is_open quiet) reason)
 
 -- ---- a query
 

@@ -7,11 +7,10 @@ use Rattle.sqlite.specs.State.{HasCleanDisk, State, Survives}
 use Rattle.sqlite_trees.specs.declared.store.Store.{Ghosts}
 use Rattle.gaz_keeper.specs.declared.fault.ShelfFault.{ShelfFault}
 use Rattle.gaz_keeper.specs.declared.fault.ShelfFault.TheVariants.{Memory, Store}
-use Rattle.gaz_tables.specs.Schema.{received, version2}
+use Rattle.gaz_tables.specs.Schema.{received}
 use Rattle.gaz_tables.specs.Stores.{HasTables}
 use Rattle.gaz_tables.specs.Tables.{rows_of}
 use Rattle.gaz_kept.specs.Kept.{IsKept}
-use Rattle.gaz_answers.specs.Lives.{AreOfCustodians}
 use Rattle.gaz_calls.specs.Remembered.{AreSo}
 use Rattle.gaz_calls.specs.Seen.{IsQuiet, IsUnharmed}
 use Rattle.gaz_kept.specs.Opening.{IsSettled}
@@ -35,44 +34,29 @@ pub record Asks {T : Type 0} (old new : State) (result : Result T ShelfFault)
 abbrev pub IsNoFailure : {T : Type 0} → Result T ShelfFault → Type 0
 IsNoFailure result = IfErr result (λ e. e ≢ Store)
 
--- it isn't, where nothing of what the tables stand on has failed, and they are what a store keeps
--- and are so
-abbrev pub IsServed : {T : Type 0} → (Database → Type 0) → State → State → Result T ShelfFault
-    → Type 0
-IsServed IsSo old new result = IsQuiet new → IsKept old.now → IsSo old.now → IsNoFailure result
-
--- whatever the tables
-abbrev pub IsAny : Database → Type 0
-IsAny db = ⊤
-
--- each row of an item, or of what became of a number, is a custodian's
-abbrev pub HasCustodians : Database → Type 0
-HasCustodians db = AreOfCustodians (rows_of db version2)
+-- it isn't, where nothing failed meanwhile of what the tables stand on, and they are what a store
+-- keeps
+abbrev pub IsServed : {T : Type 0} → State → State → Result T ShelfFault → Type 0
+IsServed old new result = IsQuiet old new → IsKept old.now → IsNoFailure result
 
 -- whatever the answer
 abbrev pub IsAnyway : {T : Type 0} → Database → T → Type 0
 IsAnyway db x = ⊤
 
--- a call on tables that only asks them; where they are so, it fails for others' reasons alone
-pub record AsksTablesOf {S : Type 0} {store : Ghosts S} {T : Type 0} (IsSo : Database → Type 0)
-    (old new : Tables S store) (result : Result T ShelfFault) (IsRight : Database → T → Type 0)
-    : Type 0 where
+-- a call on tables that only asks them
+pub record AsksTables {S : Type 0} {store : Ghosts S} {T : Type 0} (old new : Tables S store)
+    (result : Result T ShelfFault) (IsRight : Database → T → Type 0) : Type 0 where
   pub asks : Asks (state store old.conn) (state store new.conn) result IsRight
-  pub served : IsServed IsSo (state store old.conn) (state store new.conn) result
+  pub served : IsServed (state store old.conn) (state store new.conn) result
   pub tallies : Tallies old.failures new.failures result
   pub at_hand : new.at_hand ≡ old.at_hand
-
--- whatever they are beside what a store keeps
-abbrev pub AsksTables : {S : Type 0} → {store : Ghosts S} → {T : Type 0} → (old new : Tables S store)
-    → Result T ShelfFault → (Database → T → Type 0) → Type 0
-AsksTables old new result IsRight = AsksTablesOf IsAny old new result IsRight
 
 -- a call that answers from what is at hand, or asks the tables and may have the answer at hand then
 pub record Recalls {S : Type 0} {store : Ghosts S} {T : Type 0} (old new : Tables S store)
     (result : Result T ShelfFault) (IsRight : Database → T → Type 0) : Type 0 where
   pub asks : Asks (state store old.conn) (state store new.conn) result
       (λ db x. AreSo old.at_hand (rows_of db received) → IsRight db x)
-  pub served : IsServed IsAny (state store old.conn) (state store new.conn) result
+  pub served : IsServed (state store old.conn) (state store new.conn) result
   pub tallies : Tallies old.failures new.failures result
   pub at_hand : IsUnharmed (state store new.conn) → IsKept (state store old.conn).now
       → AreSo old.at_hand (rows_of (state store old.conn).now received)
@@ -97,11 +81,11 @@ pub record Fails {S : Type 0} {store : Ghosts S} (old new : Tables S store) (fau
 
 -- what was answered, by the connection or by whoever read its rows, or the fault that its error is:
 -- `Memory` where the error is want of memory
-pub record Tells {S : Type 0} {store : Ghosts S} {T E : Type 0} (want : E) (old new : Tables S store)
-    (answer : Result T E) (result : Result T ShelfFault) : Type 0 where
+pub record Tells {S : Type 0} {store : Ghosts S} {T E : Type 0} (IsWant : E → Type 0)
+    (old new : Tables S store) (answer : Result T E) (result : Result T ShelfFault) : Type 0 where
   pub conn : new.conn ≡ old.conn
   pub at_hand : new.at_hand ≡ old.at_hand
   pub same : IfOk result (λ x. answer ≡ Ok x)
   pub fault : OnErr result (OnOk answer ⊥)
-  pub memory : answer ≡ Err want → result ≡ Err Memory
+  pub memory : (e : E) → IsWant e → answer ≡ Err e → result ≡ Err Memory
   pub tallies : Tallies old.failures new.failures result

@@ -7,3 +7,4 @@ pub mod Writing
 pub mod WorkedPassing
 pub mod Growing
 pub mod WorkedGrowing
+pub mod WorkedAsking

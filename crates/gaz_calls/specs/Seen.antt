@@ -1,6 +1,7 @@
 -- What the tables of a store stand for, and what a crash may leave of them.
 use Rattle.std.specs.Prelude.{◌≡◌, ◌≤◌, ◌-◌, ◌^◌, ◌==◌, ℕ, List, None, true, IsTrue}
 use Rattle.std.proofs.Common.{eqb-true, le_of_eq, subst, sym}
+use Rattle.sqlite_disk.specs.Disk.{MoreFaults}
 use Rattle.sqlite_trees.specs.Tree.{Trees}
 use Rattle.sqlite.specs.Effect.{Database, IsDatabase}
 use Rattle.sqlite.specs.State.{HasCleanDisk, State}
@@ -15,11 +16,12 @@ use Rattle.gaz_kept.specs.Kept.{IsKept}
 use Rattle.gaz_kept.specs.Opening.{IsOf}
 use Rattle.gaz_kept.proofs.LawfulViews.{content_lawful}
 use Rattle.gaz_kept.proofs.SameTrees.{same_kept, same_rows}
-use Rattle.gaz_calls.specs.Remembered.{AreSo, Remembered}
+use Rattle.gaz_calls.specs.Remembered.{AreSo}
+use Rattle.gaz_counts.specs.declared.counts.Counts.{Counts}
 
 -- the tables are those of a store of this register, what is at hand is so of them, and what they
 -- stand for is lawful
-pub record StandsFor (register : List ℕ) (s : State) (at_hand : Remembered) (working : View)
+pub record StandsFor (register : List ℕ) (s : State) (at_hand : Counts) (working : View)
     : Type 0 where
   pub kept : IsKept s.now
   pub whose : IsOf register (rows_of s.now meta)
@@ -31,12 +33,12 @@ pub record IsUnharmed (s : State) : Type 0 where
   pub clean : HasCleanDisk s
   pub is_open : IsTrue s.is_open
 
--- nothing of what it stands on has failed: the disk never did, nobody shut the connection, and its
--- steps aren't limited
-pub record IsQuiet (s : State) : Type 0 where
-  pub unharmed : IsUnharmed s
-  pub faultless : s.faults ≡ 0
-  pub unlimited : s.step_limit ≡ None
+-- nothing failed meanwhile of what it stands on: the disk didn't, nobody shut the connection, and
+-- its steps aren't limited
+pub record IsQuiet (old new : State) : Type 0 where
+  pub unharmed : IsUnharmed new
+  pub faultless : ¬ MoreFaults old.faults new.faults
+  pub unlimited : new.step_limit ≡ None
 
 -- what a crash may leave: what a sound database stands for whose trees it may leave, said of a disk
 -- that returns what was written

@@ -11,7 +11,8 @@ use Rattle.gaz_overlay.specs.Changes.{Changes as Overlaid}
 use Rattle.gaz_kept.specs.Keeping.{KeepsVolume}
 use Rattle.gaz_kept.specs.Kept.{IsKept}
 use Rattle.gaz_kept.specs.Stands.{next_in}
-use Rattle.gaz_calls.specs.Remembered.{AreSo, Remembered}
+use Rattle.gaz_calls.specs.Remembered.{AreSo}
+use Rattle.gaz_counts.specs.declared.counts.Counts.{Counts}
 
 -- ---- a file
 
@@ -41,6 +42,6 @@ abbrev pub AppliesNext : ℕ → Overlaid → Database → Database → Type 0
 AppliesNext c changes old new = KeepsVolume c (next_in old c) changes old new
 
 -- a database becomes another where the tables are a store's and what is at hand is so of them
-abbrev pub WhereSo : Remembered → (Database → Database → Type 0) → Database → Database → Type 0
+abbrev pub WhereSo : Counts → (Database → Database → Type 0) → Database → Database → Type 0
 WhereSo at_hand Becomes old new =
     IsKept old → AreSo at_hand (rows_of old received) → Becomes old new

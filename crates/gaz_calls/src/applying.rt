@@ -23,7 +23,7 @@ impl<S: Alter> Tables<S> {
         };
         let _number = next.number();
         self.write(code, next, changes)?;
-        self.was_judged(code);
+        self.at_hand.was_judged(code);
         Ok(())
     }
 

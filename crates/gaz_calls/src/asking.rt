@@ -9,7 +9,7 @@ ghost use Rattle.gaz_kept.specs.Opening.{IsSettled};
 use crate::tables::Tables;
 use gaz_keeper::ShelfFault;
 use gaz_kept::probing::probe;
-use gaz_row_items::decoding::RowFault;
+use gaz_row_items::fault::{RowFault, WrongRow};
 use sqlite::{Alter, Error, ErrorCode};
 
 impl<S: Alter> Tables<S> {
@@ -75,7 +75,7 @@ impl<S: Alter> Tables<S> {
     pub(crate) fn told<T>(&mut self, answer: Result<T, Error>) -> Result<T, ShelfFault>
         requires { HasCleanDisk (state S.Store self.old.conn)
             → OnOk answer (IsTrue (state S.Store self.old.conn).is_open) }
-        ensures tells { Tells (Error.SqliteFailure ErrorCode.OutOfMemory)
+        ensures tells { Tells (λ e. e ≡ Error.SqliteFailure ErrorCode.OutOfMemory)
             self.old self.new answer result }
         ensures sure { OnOk result (self.new.sure ≡ true) }
     {
@@ -91,12 +91,22 @@ impl<S: Alter> Tables<S> {
     /// What was read off rows. Where one can't be read it is none that a store writes, which counts
     /// as a failure.
     pub(crate) fn read<T>(&mut self, read: Result<T, RowFault>) -> Result<T, ShelfFault>
-        ensures { Tells RowFault.Memory self.old self.new read result }
+        ensures { Tells (λ fault. fault ≡ RowFault.Memory) self.old self.new read result }
     {
         match read {
             Ok(found) => Ok(found),
             Err(RowFault::Memory) => Err(ShelfFault::Memory),
             Err(RowFault::Wrong) => Err(self.fail()),
+        }
+    }
+
+    /// The same of what was read off rows without taking memory.
+    pub(crate) fn read_plain<T>(&mut self, read: Result<T, WrongRow>) -> Result<T, ShelfFault>
+        ensures { Tells (λ wrong. ⊥) self.old self.new read result }
+    {
+        match read {
+            Ok(found) => Ok(found),
+            Err(WrongRow) => Err(self.fail()),
         }
     }
 }

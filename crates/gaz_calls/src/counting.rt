@@ -10,8 +10,8 @@ ghost use Rattle.gaz_kept.specs.Contents.{board_of};
 ghost use Rattle.gaz_kept.specs.Files.{files_in, reached_in};
 ghost use Rattle.gaz_calls.specs.Remembered.{IsSo, held_in};
 
-use crate::at_hand::AtHand;
 use crate::tables::Tables;
+use gaz_counts::AtHand;
 use gaz_ids::{Code, LAST_VOLUME, Volume};
 use gaz_keeper::ShelfFault;
 use gaz_tables::receiveds;
@@ -44,7 +44,7 @@ impl<S: Alter> Tables<S> {
             reached,
             held: Some(held),
         };
-        self.note(code, counted);
+        self.at_hand.note(code, counted);
         Ok(held)
     }
 
@@ -53,7 +53,7 @@ impl<S: Alter> Tables<S> {
     fn counts(&mut self, code: Code) -> Result<AtHand, ShelfFault>
         ensures { Recalls self.old self.new result (λ db h. IsSo (rows_of db received) code h) }
     {
-        if let Some(at_hand) = self.at_hand.get(&code).copied() {
+        if let Some(at_hand) = self.at_hand.of(code) {
             return Ok(at_hand);
         }
         let reached = self.count_judged(code)?;
@@ -61,7 +61,7 @@ impl<S: Alter> Tables<S> {
             reached,
             held: None,
         };
-        self.note(code, counted);
+        self.at_hand.note(code, counted);
         Ok(counted)
     }
 

@@ -5,10 +5,9 @@ ghost use Rattle.gaz_register.specs.Texts.{register_text};
 ghost use Rattle.gaz_kept.specs.Opening.{has_all};
 ghost use Rattle.gaz_kept.specs.Rewriting.{Registers};
 ghost use Rattle.gaz_calls.specs.Altering.{AltersTables};
-ghost use Rattle.gaz_calls.specs.Asking.{AsksTablesOf, IsAnyway};
+ghost use Rattle.gaz_calls.specs.Asking.{AsksTables, IsAnyway};
 ghost use Rattle.gaz_calls.specs.Growing.{SparesUngrown, TellsGrowth};
 ghost use Rattle.gaz_calls.specs.Growing.{TellsRegisters, TellsWhose, as_kept};
-ghost use Rattle.gaz_calls.specs.Growing.{of_growth, of_keeper};
 
 use crate::tables::Tables;
 use gaz_keeper::ShelfFault;
@@ -35,30 +34,38 @@ pub enum ExtendFault {
     Memory,
 }
 
-// A fault of the tables, as it is told.
-fn of_keeper(fault: ShelfFault) -> ExtendFault
-    ensures { result ≡ of_keeper fault }
-{
-    match fault {
-        ShelfFault::Memory => ExtendFault::Memory,
-        ShelfFault::Store => ExtendFault::Fault,
+impl From<ShelfFault> for ExtendFault {
+    ghost use Rattle.std.specs.Prelude.{◌≡◌};
+    ghost use Rattle.gaz_calls.specs.Growing.{of_keeper};
+
+    ghost from_gives = { λ fault e. e ≡ of_keeper fault };
+
+    fn from(fault: ShelfFault) -> ExtendFault {
+        match fault {
+            ShelfFault::Memory => ExtendFault::Memory,
+            ShelfFault::Store => ExtendFault::Fault,
+        }
     }
 }
 
-// Why a register is no growth of another, as it is told.
-fn of_growth(fault: GrowFault) -> ExtendFault
-    ensures { result ≡ of_growth fault }
-{
-    match fault {
-        GrowFault::RemovedCustodian => ExtendFault::RemovedCustodian,
-        GrowFault::ChangedBlocks => ExtendFault::ChangedBlocks,
+impl From<GrowFault> for ExtendFault {
+    ghost use Rattle.std.specs.Prelude.{◌≡◌};
+    ghost use Rattle.gaz_calls.specs.Growing.{of_growth};
+
+    ghost from_gives = { λ fault e. e ≡ of_growth fault };
+
+    fn from(fault: GrowFault) -> ExtendFault {
+        match fault {
+            GrowFault::RemovedCustodian => ExtendFault::RemovedCustodian,
+            GrowFault::ChangedBlocks => ExtendFault::ChangedBlocks,
+        }
     }
 }
 
 impl<S: Alter> Tables<S> {
     // Whether the row of `meta` is of this register.
     fn is_of(&mut self, register: &Register) -> Result<bool, ShelfFault>
-        ensures asks { AsksTablesOf (λ _. ⊥) self.old self.new result IsAnyway }
+        ensures asks { AsksTables self.old self.new result IsAnyway }
         ensures told { TellsWhose S.Store self.old.conn self.new.conn
             (register_text register.now) result }
         ensures lacking { has_all (state S.Store self.old.conn).now.schema ≡ false
@@ -85,10 +92,8 @@ impl<S: Alter> Tables<S> {
     fn write_register(&mut self, register: &Register) -> Result<(), ShelfFault>
         ensures { AltersTables self.old self.new result (Registers (register_text register.now)) }
     {
-        match register.text(self.alloc) {
-            Ok(text) => self.rewrite(&text),
-            Err(_) => Err(ShelfFault::Memory),
-        }
+        let text = register.text(self.alloc)?;
+        self.rewrite(&text)
     }
 
     /// Gives the row of `meta`, where it is of this register, one that the register grew to.
@@ -108,19 +113,12 @@ impl<S: Alter> Tables<S> {
         ensures lacking { has_all (state S.Store self.old.conn).now.schema ≡ false
             → result ≡ Err ExtendFault.OtherRegister }
     {
-        let own = match self.is_of(register) {
-            Ok(own) => own,
-            Err(fault) => return Err(of_keeper(fault)),
-        };
+        let own = self.is_of(register)?;
         if !own {
             return Err(ExtendFault::OtherRegister);
         }
-        if let Err(fault) = register.growth(grown) {
-            return Err(of_growth(fault));
-        }
-        match self.write_register(grown) {
-            Ok(()) => Ok(()),
-            Err(fault) => Err(of_keeper(fault)),
-        }
+        register.growth(grown)?;
+        self.write_register(grown)?;
+        Ok(())
     }
 }

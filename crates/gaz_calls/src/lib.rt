@@ -4,7 +4,6 @@
 
 mod applying;
 mod asking;
-mod at_hand;
 mod blpus;
 mod counting;
 mod custody;

@@ -4,7 +4,7 @@ ghost use Rattle.gaz_records.specs.Items.{is_entry};
 ghost use Rattle.gaz_tables.specs.Rowids.{FindsBehind, FindsFirst, FindsInTurn};
 ghost use Rattle.gaz_tables.specs.Schema.{version2};
 ghost use Rattle.gaz_tables.specs.Tables.{rows_of};
-ghost use Rattle.gaz_calls.specs.Asking.{AsksTables, AsksTablesOf, HasCustodians};
+ghost use Rattle.gaz_calls.specs.Asking.{AsksTables};
 ghost use Rattle.gaz_answers.specs.Lives.{AreEntries, IsRowBehind, TellsLives, TellsPage};
 
 use crate::tables::Tables;
@@ -49,7 +49,7 @@ impl<S: Alter> Tables<S> {
 
     // What a page of the rows behind a rowid tells, or one from the first.
     fn lives_step(&mut self, after: Option<i64>) -> Result<LifePage, ShelfFault>
-        ensures asks { AsksTablesOf HasCustodians self.old self.new result
+        ensures asks { AsksTables self.old self.new result
             (λ db page. TellsPage after (rows_of db version2) page) }
         ensures entries { IfOk result AreEntries }
     {
@@ -61,7 +61,7 @@ impl<S: Alter> Tables<S> {
     /// most `MOST`. Rows of what became of numbers are passed over, also where there is nothing
     /// else on a page.
     pub fn lives_behind(&mut self, after: Option<i64>) -> Result<Vec<Life>, ShelfFault>
-        ensures asks { AsksTablesOf HasCustodians self.old self.new result
+        ensures asks { AsksTables self.old self.new result
             (λ db lives. TellsLives after lives.items (rows_of db version2)) }
         ensures entries { IfOk result
             (λ lives. All (λ life. is_entry life.item ≡ true) lives.items) }

@@ -5,11 +5,9 @@ ghost use Rattle.sqlite.specs.Order.{Row};
 ghost use Rattle.sqlite.specs.State.{HasCleanDisk};
 ghost use Rattle.gaz_calls.specs.Remembered.{AreSo};
 
-use crate::at_hand::AtHand;
-use gaz_ids::Code;
+use gaz_counts::Counts;
 use sqlite::{Alter, Connection};
 use std::alloc::Global;
-use std::collections::BTreeMap;
 
 /// The connection of a store, outside a transaction between calls; whether it answered last, so
 /// that it is known to be open; how often the store failed; and what is at hand of each custodian
@@ -19,7 +17,7 @@ pub struct Tables<S: Alter> {
     pub(crate) alloc: Global,
     pub(crate) sure: bool,
     pub(crate) failures: u64,
-    pub(crate) at_hand: BTreeMap<Code, AtHand>,
+    pub(crate) at_hand: Counts,
     ghost over: { conn.in_transaction ≡ false },
     ghost is_open: { sure ≡ true → HasCleanDisk (state S.Store conn)
         → IsTrue (state S.Store conn).is_open },
@@ -51,7 +49,7 @@ impl<S: Alter> Tables<S> {
             alloc,
             sure: false,
             failures: 0,
-            at_hand: BTreeMap::new(alloc),
+            at_hand: Counts::new(alloc),
         }
     }
 

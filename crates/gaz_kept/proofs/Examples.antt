@@ -24,14 +24,15 @@ use Rattle.gaz_tables.specs.Receiveds.{judged}
 use Rattle.gaz_row_items.specs.Examples.{changed, changed_101, four_rows}
 use Rattle.gaz_row_items.specs.Versions.{histories_in, living, view_in}
 use Rattle.gaz_row_items.proofs.Examples.{at_1001, histories_1001, not_102, said, said_item}
-use Rattle.gaz_kept.specs.Examples.{WorkedBoard, WorkedExamples, WorkedFiles, WorkedTables, handed_on, held_6, overlapping, rejected_3, six_files, with_a_gap, worked_board}
+use Rattle.gaz_kept.specs.Examples.{WorkedBoard, WorkedExamples, WorkedFiles, WorkedTables, changed_of, handed_on, held_6, overlapping, rejected_3, six_files, with_a_gap, worked_board}
 use Rattle.gaz_keeper.specs.Board.{verdict_on}
 use Rattle.gaz_keeper.specs.Board as board
 use Rattle.gaz_keeper.specs.Received.{pair_cmp}
 use Rattle.gaz_keeper.proofs.Pairs.{pairs_total}
 use Rattle.gaz_kept.specs.Files.{file_in, files_in, judged_in, judged_volumes, verdicts_in}
 use Rattle.gaz_kept.specs.Kept.{AreInTurn, AreFirst, IsFile, IsVersion}
-use Rattle.gaz_kept.proofs.RowsRead.{passage_kind}
+use Rattle.gaz_kept.proofs.RowsRead.{of_custodian, passage_kind}
+use Rattle.gaz_kept.proofs.Statements.{written_version}
 
 -- ---- files
 
@@ -129,6 +130,7 @@ no_state_7 h = let le : 7 ≤ 2 = h.states in absurd (omega arith)
 version_holds : IsVersion changed_101
 version_holds = inl (record {
   cust = refl;
+  custodian = (omega arith, omega arith);
   kind = refl;
   id = refl;
   blpu = refl;
@@ -147,6 +149,15 @@ version_holds = inl (record {
 no_hop_1 : ¬ IsVersion handed_on
 no_hop_1 (inl v) = let e : ◌≡◌ {A = Value} (Int (pos 1)) (Int (pos 0)) = v.hop in absurd (cc)
 no_hop_1 (inr v) = let e : 11 ≡ 92 = passage_kind handed_on v in absurd (omega (arith, e))
+
+no_code_0 : ¬ IsVersion (changed_of 0)
+no_code_0 v = let le : 1 ≤ 0 = (of_custodian (changed_of 0) v).0 in absurd (omega arith)
+
+code_9999 : IsVersion (changed_of 9999)
+code_9999 = written_version (Int (pos 2)) 9999 2 4 changed (omega arith, omega arith) refl refl (omega arith) (omega arith)
+
+no_code_10000 : ¬ IsVersion (changed_of 10000)
+no_code_10000 v = let le : 10000 ≤ 9999 = (of_custodian (changed_of 10000) v).1 in absurd (omega arith)
 
 first_holds : AreFirst six_files 1001
 first_holds = ap (map (λ e. e.0)) judged_1001 ∙ sym (ap (range_with_len 1) (ap length verdicts_are))
@@ -239,6 +250,9 @@ tables_hold = record {
   state_7 = no_state_7;
   version = version_holds;
   with_a_hop = no_hop_1;
+  code_0 = no_code_0;
+  code_9999 = code_9999;
+  code_10000 = no_code_10000;
   first = first_holds;
   gap = no_gap;
   apart = apart_holds;

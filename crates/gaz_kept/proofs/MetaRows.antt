@@ -1,5 +1,6 @@
 -- What the rows of `meta` tell, from what is shown of them.
-use Rattle.std.proofs.Common.{◌≡◌, ◌≢◌, ◌∙◌, ◌&&◌, inl, inr, ℕ, pos, Bool, true, false, not, codes, List, [], ◌∷◌, filter, map, take, Ok, Err, Result, IfOk, Vec, IsPermutation, refl, sym, ap, subst}
+use Rattle.std.proofs.Common.{◌≡◌, ◌≢◌, ◌≤◌, ◌∙◌, ◌&&◌, inl, inr, ℕ, pos, Bool, true, false, not, codes, List, [], ◌∷◌, filter, map, take, Ok, Err, Result, IfOk, Vec, IsPermutation, arith, refl, sym, ap, subst}
+use Rattle.std.specs.Prelude.{IfErr, IsSome}
 use Rattle.std.specs.declared.alloc.Global.{Global}
 use Rattle.std.proofs.lemmas.List.Sorted.{IsPermutation-sym}
 use Rattle.sqlite.proofs.Callers.{one_permutation}
@@ -10,6 +11,7 @@ use Rattle.sqlite.specs.Schema.{Schema}
 use Rattle.sqlite.specs.State.{Shown}
 use Rattle.sqlite.specs.Table.{Table}
 use Rattle.std.specs.List.{list_any}
+use Rattle.gaz_sql_facts.specs.Reasons.{HasReason}
 use Rattle.gaz_sql_facts.proofs.Texts.{answers}
 use Rattle.gaz_tables.proofs.Standing.{listed, table}
 use Rattle.gaz_tables.proofs.MetaTexts.{rows_found, rows_here}
@@ -22,6 +24,7 @@ use Rattle.sqlite_schema.specs.Names.{same_name}
 use Rattle.sqlite_trees.specs.declared.store.Store.{Ghosts}
 use Rattle.gaz_tables.specs.Metas.{FindsTwo, meta_row, meta_shown, rows_text}
 use Rattle.gaz_tables.specs.Schema.{meta, received, version, version2}
+use Rattle.gaz_tables.specs.Stores.{HasTables}
 use Rattle.gaz_tables.specs.Tables.{AreThere, HasTable, rows_of}
 use Rattle.gaz_kept.specs.Numbered.{HasMeta, IsAnswer, IsJudged, IsNumbered, IsOne, IsTold}
 use Rattle.gaz_kept.specs.Opening.{CreateOpens, has_all, has_any, has_name, is_like, schema_number}
@@ -102,6 +105,24 @@ found g before begun after same (Ok rows) shown has =
     let there : HasTable meta (state g begun).now.schema = subst (λ (db : Database). HasTable meta db.schema) (sym now) (meta_there (state g before).now has) in
     let all = answers _ _ _ _ _ _ _ _ (rows_here (state g begun).now there) _ (state g begun) (state g after) refl (Ok rows) shown in
     subst (λ (db : Database). FindsTwo (rows_of db meta) rows.items) now (rows_found (state g begun).now (Ok rows) all)
+
+-- a failure there, of a store's tables, has its reason where the transaction began
+pub failed : {S : Type 0} (g : Ghosts S) (before begun asked : Held S) (faults : ℕ) → begun ≡ record before { in_transaction = true } → (r : Result (Vec Row Global) Error)
+    → (HasTables (state g begun).now → IfErr r (HasReason (state g begun) (state g asked)))
+    → (state g asked).faults ≤ faults → HasTables (state g before).now → IfErr r (HasReason (state g before) (record (state g before) { faults = faults }))
+failed g before begun asked faults same r reason rolled has = by_result r (reason (subst (λ h. HasTables (state g h).now) (sym same) has))
+  where
+    by_reason : (e : Error) → HasReason (state g begun) (state g asked) e → HasReason (state g before) (record (state g before) { faults = faults }) e
+    by_reason e (inl want) = inl want
+    by_reason e (inr (inl more)) =
+        let same : (state g begun).faults ≡ (state g before).faults = ap (λ h. (state g h).faults) same in
+        inr (inl (omega (arith, more, rolled, same)))
+    by_reason e (inr (inr (inl shut))) = inr (inr (inl (sym (ap (λ h. (state g h).is_open) same) ∙ shut)))
+    by_reason e (inr (inr (inr limited))) = inr (inr (inr (subst IsSome (ap (λ h. (state g h).step_limit) same) limited)))
+
+    by_result : (r : Result (Vec Row Global) Error) → IfErr r (HasReason (state g begun) (state g asked)) → IfErr r (HasReason (state g before) (record (state g before) { faults = faults }))
+    by_result (Ok rows) h = tt
+    by_result (Err e) h = by_reason e h
 
 -- ---- what is shown
 

@@ -31,6 +31,7 @@ use Rattle.gaz_kept.proofs.PassageViews.{same_views}
 version_too : (v w : Value) (s : Row) → IsVersion (v ∷ with_hop s) → IsVersion (w ∷ with_hop s)
 version_too v w s (inr h) = inr (record {
   cust = h.cust;
+  custodian = h.custodian;
   kind = h.kind;
   id = h.id;
   blpu = h.blpu;
@@ -47,6 +48,7 @@ version_too v w s (inr h) = inr (record {
 })
 version_too v w s (inl h) = inl (record {
   cust = h.cust;
+  custodian = h.custodian;
   kind = h.kind;
   id = h.id;
   blpu = h.blpu;

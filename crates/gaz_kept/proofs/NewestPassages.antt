@@ -49,7 +49,7 @@ TellsPassage uprn (Some passed) None = ⊥
 TellsPassage uprn (Some passed) (Some p) = IsPassedRow uprn passed p
 
 -- what cells of what became of a number tell
-told_back : (n : ℕ) (x : Custody) → is_custody x ≡ true → told_in (custody_cells n x) ≡ Some x
+pub told_back : (n : ℕ) (x : Custody) → is_custody x ≡ true → told_in (custody_cells n x) ≡ Some x
 told_back n (Released to hop) such = let both = and_parts (in_range 1 9999 to) (in_range 1 9999 hop) such in rw (both.0, both.1) refl
 told_back n (Adopted from hop) such = let both = and_parts (in_range 1 9999 from) (in_range 1 9999 hop) such in rw (both.0, both.1) refl
 

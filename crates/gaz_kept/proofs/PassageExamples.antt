@@ -15,15 +15,22 @@ use Rattle.gaz_row_items.proofs.CustodyFollows.{no_item, no_passage}
 use Rattle.gaz_row_items.proofs.PassageSaid.{says_passage}
 use Rattle.gaz_row_items.proofs.PassageExamples.{both, passages_1001}
 use Rattle.gaz_kept.specs.Kept.{ArePassages, IsFollowed, IsPassedUntil, IsVersion}
-use Rattle.gaz_kept.specs.PassageExamples.{WorkedRows}
+use Rattle.gaz_kept.specs.PassageExamples.{WorkedRows, passed_by}
 use Rattle.gaz_kept.specs.Passages.{IsLastOf}
 use Rattle.gaz_kept.proofs.PassageStatements.{written_passage}
+use Rattle.gaz_kept.proofs.RowsRead.{of_custodian}
 
 -- ---- the rows
 
 no_hop : ¬ IsVersion without_hop
 no_hop (inl v) = absurd (subst (λ (o : Option Item). IsSomeAnd o (λ x. is_item x ≡ true)) (no_item without_hop refl) v.item)
 no_hop (inr v) = let clash : false ≡ true = sym (ap is_some (no_passage without_hop refl)) ∙ v.passage in absurd (cc)
+
+no_code_0 : ¬ IsVersion (passed_by 0)
+no_code_0 v = let le : 1 ≤ 0 = (of_custodian (passed_by 0) v).0 in absurd (omega arith)
+
+no_code_10000 : ¬ IsVersion (passed_by 10000)
+no_code_10000 v = let le : 10000 ≤ 9999 = (of_custodian (passed_by 10000) v).1 in absurd (omega arith)
 
 -- each of the two rows
 by_row : (P : PassageRow → Type 0) → P given_up → P taken_back → (p : PassageRow) → Has both p → P p
@@ -57,8 +64,11 @@ given_1001 = λ i. cons_option (says_passage (Int (pos 5)) 1001 1 3 500 (Release
 
 pub rows_hold : WorkedRows
 rows_hold = record {
-  version = inr (written_passage (Int (pos 5)) 1001 1 3 500 (Released 1002 1) refl refl (omega arith) (omega arith));
+  version = inr (written_passage (Int (pos 5)) 1001 1 3 500 (Released 1002 1) (omega arith, omega arith) refl refl (omega arith) (omega arith));
   hop_0 = no_hop;
+  code_0 = no_code_0;
+  code_9999 = inr (written_passage (Int (pos 5)) 9999 1 3 500 (Released 1002 1) (omega arith, omega arith) refl refl (omega arith) (omega arith));
+  code_10000 = no_code_10000;
   through_3 = subst (ArePassages 3) (sym passages_1001) are_both;
   lapses = λ are. lapses (subst (ArePassages 3) given_1001 are);
   last_by_2 = subst (λ ps. IsLastOf 2 ps 500 (Some given_up)) (sym passages_1001) (record {

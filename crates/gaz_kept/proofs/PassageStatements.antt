@@ -23,7 +23,7 @@ use Rattle.gaz_row_items.proofs.CustodyFollows.{no_item, no_passage}
 use Rattle.gaz_row_items.proofs.Unsaid.{history_none, not_owned, passage_none}
 use Rattle.gaz_row_items.proofs.PassageSaid.{written_cells, says_passage}
 use Rattle.gaz_kept.specs.Judging.{ArePassedLater}
-use Rattle.gaz_kept.specs.Kept.{AreVersions, IsPassageRow, IsVersion}
+use Rattle.gaz_kept.specs.Kept.{AreVersions, IsCode, IsPassageRow, IsVersion}
 use Rattle.gaz_kept.specs.Passages.{ArePassedOnce, EndsPassing, InsertPasses, ended_with}
 use Rattle.gaz_kept.proofs.RowsRead.{Tells, gone_version, not_none, passage_kind, read_from, read_in, same_added, same_changed, some_same, tells_of, whole}
 
@@ -111,9 +111,10 @@ passed_later c rows all p there = let r = read_from (passage_in c) rows p there 
 
 -- ---- INSERT
 
-pub written_passage : (id : Value) (c born gone uprn : ℕ) (x : Custody) → is_uprn uprn ≡ true → is_custody x ≡ true → 1 ≤ born → born ≤ gone → IsPassageRow (id ∷ passage_values c born gone uprn x)
-written_passage id c born gone uprn x number such first in_turn = record {
+pub written_passage : (id : Value) (c born gone uprn : ℕ) (x : Custody) → IsCode c → is_uprn uprn ≡ true → is_custody x ≡ true → 1 ≤ born → born ≤ gone → IsPassageRow (id ∷ passage_values c born gone uprn x)
+written_passage id c born gone uprn x code number such first in_turn = record {
   cust = refl;
+  custodian = code;
   kind = refl;
   id = refl;
   blpu = refl;
@@ -134,7 +135,7 @@ written_passage id c born gone uprn x number such first in_turn = record {
     by_live (Adopted from hop) = refl
 
 pub insert_passes : InsertPasses
-insert_passes id c born gone uprn x old new number such first in_turn all added = record {
+insert_passes id c born gone uprn x old new code number such first in_turn all added = record {
   gain = record {
     only = λ q there. let r = read_from (passage_in c) new q there in only_here q r.0 r.2 (added.only r.0 r.1);
     there = read_in (passage_in c) new row p added.there said;
@@ -159,7 +160,7 @@ insert_passes id c born gone uprn x old new number such first in_turn all added 
     only_here q r is (inr was) = inr (read_in (passage_in c) old r q was is)
 
     is_row : (r : Row) → (r ≡ row) ⊎ Has old r → IsVersion r
-    is_row r (inl same) = subst IsVersion (sym same) (inr (written_passage id c born gone uprn x number such first in_turn))
+    is_row r (inl same) = subst IsVersion (sym same) (inr (written_passage id c born gone uprn x code number such first in_turn))
     is_row r (inr was) = all r was
 
 -- ---- UPDATE

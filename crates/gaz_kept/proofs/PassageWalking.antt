@@ -199,7 +199,7 @@ module _ (c n : ℕ) (room : n + 1 < never) (changes : Changes) (old : List Row)
         a =
             let first : 1 ≤ n + 1 = omega arith in
             let in_turn : n + 1 ≤ never = omega arith in
-            insert_passes (Int (next_rowid mid)) c (n + 1) never k x mid new adds.number adds.such first in_turn e.rows adds.row
+            insert_passes (Int (next_rowid mid)) c (n + 1) never k x mid new adds.custodian adds.number adds.such first in_turn e.rows adds.row
 
     write_number : (new : List Row) → is_passed changes k ≡ true → WritesNumber c (n + 1) k (passage_at changes k) now new → IsOnTheWay c n changes (k ∷ done) old new
     write_number new there w = by_custody (custody_at changes.view k) refl w

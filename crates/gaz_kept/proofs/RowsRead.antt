@@ -34,7 +34,7 @@ use Rattle.gaz_row_items.proofs.CustodyFollows.{CustodyFollows, custody_follows,
 use Rattle.gaz_row_items.proofs.Unsaid.{history_none}
 use Rattle.gaz_kept.specs.Histories.{AreSame, gone_with}
 use Rattle.gaz_kept.specs.Judging.{AreBornLater}
-use Rattle.gaz_kept.specs.Kept.{AreVersions, IsItemRow, IsPassageRow, IsVersion}
+use Rattle.gaz_kept.specs.Kept.{AreVersions, IsCode, IsItemRow, IsPassageRow, IsVersion}
 
 -- ---- lists that are read
 
@@ -88,6 +88,13 @@ same_changed {Y} f P change old new changed none = record {
     by_origin : (y : Y) (r : Row) → f r ≡ Some y → (Has old r × ¬ P r) ⊎ ((s : Row) × Has old s × P s × (r ≡ change s)) → Has (filter_map f old) y
     by_origin y r is (inl was) = read_in f old r y was.0 is
     by_origin y r is (inr s) = not_none y is (ap f s.3 ∙ (none s.0 s.1 s.2).1)
+
+-- ---- a row's custodian
+
+-- each row is of one
+pub of_custodian : (r : Row) → IsVersion r → IsCode (number_in (table.cust_of r))
+of_custodian r (inl v) = v.custodian
+of_custodian r (inr v) = v.custodian
 
 -- ---- a row of kind 92
 
@@ -247,6 +254,7 @@ gone_history c volume r y version is =
 pub gone_version : (volume : ℕ) (r : Row) → IsVersion r → number_in (table.born_of r) ≤ volume → IsVersion (gone_at volume r)
 gone_version volume r (inr v) le = inr (record {
   cust = v.cust;
+  custodian = v.custodian;
   kind = v.kind;
   id = v.id;
   blpu = v.blpu;
@@ -263,6 +271,7 @@ gone_version volume r (inr v) le = inr (record {
 })
 gone_version volume r (inl v) le = inl (record {
   cust = v.cust;
+  custodian = v.custodian;
   kind = v.kind;
   id = v.id;
   blpu = v.blpu;

@@ -22,14 +22,15 @@ use Rattle.gaz_row_items.proofs.CustodyFollows.{no_passage}
 use Rattle.gaz_row_items.proofs.Said.{cells_same, not_another, says}
 use Rattle.gaz_row_items.proofs.Unsaid.{passage_none}
 use Rattle.gaz_kept.specs.Histories.{ClosesVersion, InsertAdds, StatementsChange, gone_with}
-use Rattle.gaz_kept.specs.Kept.{AreVersions, IsVersion}
+use Rattle.gaz_kept.specs.Kept.{AreVersions, IsCode, IsVersion}
 use Rattle.gaz_kept.proofs.RowsRead.{IsBirthOf, birth_of, born_as, fits, gone_history, gone_version, history_of, item_of, item_row, its_custodian, kind_row, not_none, read_from, read_in, same_added, same_changed, some_same}
 
 -- ---- INSERT
 
-written_version : (id : Value) (c born gone : ℕ) (x : Item) → is_item x ≡ true → is_entry x ≡ true → 1 ≤ born → born ≤ gone → IsVersion (id ∷ values_of c born gone x)
-written_version id c born gone x known entry first in_turn = inl (record {
+pub written_version : (id : Value) (c born gone : ℕ) (x : Item) → IsCode c → is_item x ≡ true → is_entry x ≡ true → 1 ≤ born → born ≤ gone → IsVersion (id ∷ values_of c born gone x)
+written_version id c born gone x code known entry first in_turn = inl (record {
   cust = refl;
+  custodian = code;
   kind = refl;
   id = refl;
   blpu = refl;
@@ -53,7 +54,7 @@ written_version id c born gone x known entry first in_turn = inl (record {
     said = ap (λ d. result_ok (read_cells d)) (cells_same id c born gone x) ∙ ap result_ok (cells_back x entry (text-back x known))
 
 pub insert_adds : InsertAdds
-insert_adds id c born gone x old new known entry first in_turn all added = record {
+insert_adds id c born gone x old new code known entry first in_turn all added = record {
   gain = record {
     only = λ y there. let r = read_from (history_in c) new y there in only_here y r.0 r.2 (added.only r.0 r.1);
     there = read_in (history_in c) new row h added.there said;
@@ -85,7 +86,7 @@ insert_adds id c born gone x old new known entry first in_turn all added = recor
     only_there d other y r is (inr was) = read_in (history_in d) old r y was is
 
     is_row : (r : Row) → (r ≡ row) ⊎ Has old r → IsVersion r
-    is_row r (inl same) = subst IsVersion (sym same) (written_version id c born gone x known entry first in_turn)
+    is_row r (inl same) = subst IsVersion (sym same) (written_version id c born gone x code known entry first in_turn)
     is_row r (inr was) = all r was
 
 -- ---- UPDATE

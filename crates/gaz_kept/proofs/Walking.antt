@@ -174,7 +174,7 @@ module _ (c n : ℕ) (room : n + 1 < never) (changes : Changes) (old : List Row)
         in_turn false = omega arith
 
         v : AddsVersion c (living (n + 1) (cond r.current never (n + 1)) r.item) mid new
-        v = let first : 1 ≤ n + 1 = omega arith in insert_adds (Int (next_rowid mid)) c (n + 1) (cond r.current never (n + 1)) r.item mid new adds.0 (entries k r is) first (in_turn r.current) u.rows adds.1
+        v = let first : 1 ≤ n + 1 = omega arith in insert_adds (Int (next_rowid mid)) c (n + 1) (cond r.current never (n + 1)) r.item mid new adds.0 adds.1 (entries k r is) first (in_turn r.current) u.rows adds.2
 
         its_gain : Gain (new_row (n + 1) k r) (histories_in mid c) (histories_in new c)
         its_gain = subst (λ q. Gain (record { key = q; born = n + 1; gone = cond r.current never (n + 1); item = r.item }) (histories_in mid c) (histories_in new c)) (own k r is) v.gain

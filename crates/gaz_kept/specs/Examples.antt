@@ -18,6 +18,10 @@ use Rattle.gaz_kept.specs.Kept.{AreInTurn, AreFirst, IsFile, IsVersion}
 abbrev pub handed_on : Row
 handed_on = take 11 changed_101 ++ Int (pos 1) ∷ []
 
+-- the changed street, as a row of another custodian, or of none
+abbrev pub changed_of : ℕ → Row
+changed_of c = Int (pos 2) ∷ values_of c 2 4 changed
+
 -- four volumes of 1001 are judged, the third of them rejected at record 5 by rule 21, and the sixth
 -- is held; one of 1002 is judged
 abbrev pub applied : ℕ → ℕ → Row
@@ -70,6 +74,9 @@ pub record WorkedTables : Type 0 where
   pub state_7 : ¬ IsFile (judged 7 (pos 0) 0 held_6)
   pub version : IsVersion changed_101
   pub with_a_hop : ¬ IsVersion handed_on
+  pub code_0 : ¬ IsVersion (changed_of 0)
+  pub code_9999 : IsVersion (changed_of 9999)
+  pub code_10000 : ¬ IsVersion (changed_of 10000)
   pub first : AreFirst six_files 1001
   pub gap : ¬ AreFirst with_a_gap 1001
   pub apart : AreInTurn (histories_in four_rows 1001)

@@ -15,7 +15,7 @@ use Rattle.gaz_overlay.specs.Rows.{HistoryRow, view_after}
 use Rattle.gaz_sql_facts.specs.Changes.{IsAdded}
 use Rattle.gaz_tables.specs.Versions.{Closes}
 use Rattle.gaz_row_items.specs.Versions.{histories_in, living, passages_in, values_of}
-use Rattle.gaz_kept.specs.Kept.{AreInTurn, AreVersions}
+use Rattle.gaz_kept.specs.Kept.{AreInTurn, AreVersions, IsCode}
 
 -- the key was used, and nothing stands there that didn't
 abbrev pub with_use : View → Key → View
@@ -124,8 +124,9 @@ pub record ClosesVersion (c volume : ℕ) (h : HistoryRow) (old new : List Row) 
 
 abbrev pub InsertAdds : Type 0
 InsertAdds = (id : Value) (c born gone : ℕ) (x : Item) (old new : List Row)
-    → is_item x ≡ true → is_entry x ≡ true → 1 ≤ born → born ≤ gone → AreVersions old
-    → IsAdded (id ∷ values_of c born gone x) old new → AddsVersion c (living born gone x) old new
+    → IsCode c → is_item x ≡ true → is_entry x ≡ true → 1 ≤ born → born ≤ gone
+    → AreVersions old → IsAdded (id ∷ values_of c born gone x) old new
+    → AddsVersion c (living born gone x) old new
 
 abbrev pub UpdateCloses : Type 0
 UpdateCloses = (c volume : ℕ) (h : HistoryRow) (old new : List Row) → h.born ≤ volume

@@ -36,7 +36,7 @@ use Rattle.gaz_tables.specs.Tables.{rows_of}
 use Rattle.gaz_row_items.specs.NewestPassages.{HasPassage}
 use Rattle.gaz_row_items.specs.Versions.{histories_in, passage_values, passages_in, values_of}
 use Rattle.gaz_kept.specs.Contents.{content_in}
-use Rattle.gaz_kept.specs.Kept.{IsKept}
+use Rattle.gaz_kept.specs.Kept.{IsCode, IsKept}
 use Rattle.gaz_kept.specs.LastViews.{last_in}
 use Rattle.gaz_kept.specs.Stands.{Stands, next_in}
 
@@ -51,7 +51,7 @@ ClosesRow c volume k (Some born) old new =
 -- an item's row is born in this volume, and gone with it unless it is current
 abbrev pub AddsItem : ℕ → ℕ → Option NewRow → List Row → List Row → Type 0
 AddsItem c volume None old new = new ≡ old
-AddsItem c volume (Some r) old new = (is_item r.item ≡ true)
+AddsItem c volume (Some r) old new = IsCode c × (is_item r.item ≡ true)
     × AddsRow (values_of c volume (if r.current then never else volume) r.item) old new
 
 -- the rows once a key is written
@@ -76,6 +76,7 @@ EndsRow c volume uprn (Some born) old new =
 -- what became of a number is born in this volume, and current
 pub record AddsPassage (c volume uprn : ℕ) (custody : Custody) (old new : List Row)
     : Type 0 where
+  pub custodian : IsCode c
   pub number : is_uprn uprn ≡ true
   pub such : is_custody custody ≡ true
   pub row : AddsRow (passage_values c volume never uprn custody) old new

@@ -7,7 +7,7 @@ use Rattle.sqlite.specs.Order.{Row}
 use Rattle.sqlite_rules.specs.Lists.{Has}
 use Rattle.std.specs.FinMap as finite
 use Rattle.std.specs.List.{range_with_len}
-use Rattle.gaz_ids.specs.Limits.{last_volume}
+use Rattle.gaz_ids.specs.Limits.{last_code, last_volume}
 use Rattle.gaz_records.specs.Items.{is_item}
 use Rattle.gaz_cells.specs.Custody.{custody_in}
 use Rattle.gaz_overlay.specs.Passages.{PassageRow}
@@ -50,9 +50,14 @@ AreFirst rows c = finite.keys (judged_volumes rows c) ≡ range_with_len 1 (reac
 
 -- ---- the rows of `version2`
 
+-- the number is a custodian's code
+abbrev pub IsCode : ℕ → Type 0
+IsCode c = (1 ≤ c) × (c ≤ last_code)
+
 -- an item of a custodian, from one volume until another, where nothing was handed on
 pub record IsItemRow (r : Row) : Type 0 where
   pub cust : IsWhole (cust_of r)
+  pub custodian : IsCode (number_in (cust_of r))
   pub kind : IsWhole (kind_of r)
   pub id : IsText (id_of r)
   pub blpu : IsWhole (blpu_of r)
@@ -71,6 +76,7 @@ pub record IsItemRow (r : Row) : Type 0 where
 -- the other custodian's code in `street`, and a hop from 1 to 9999
 pub record IsPassageRow (r : Row) : Type 0 where
   pub cust : IsWhole (cust_of r)
+  pub custodian : IsCode (number_in (cust_of r))
   pub kind : IsWhole (kind_of r)
   pub id : IsText (id_of r)
   pub blpu : IsWhole (blpu_of r)

@@ -1,7 +1,7 @@
 -- Which databases are taken as a store of a register, and which become one.
-use Rattle.std.specs.Prelude.{◌≡◌, ◌↔◌, ◌&&◌, ◌||◌, ℕ, Bool, true, false}
+use Rattle.std.specs.Prelude.{◌≡◌, ◌⊎◌, ◌↔◌, ◌&&◌, ◌||◌, ℕ, Bool, true, false}
 use Rattle.std.specs.Prelude.{List, codes, map, Option, None, Some}
-use Rattle.std.specs.Prelude.{Result, IfOk, OnErr, OnOk, IsTrue}
+use Rattle.std.specs.Prelude.{Result, IfErr, IfOk, OnErr, OnOk, IsTrue}
 use Rattle.std.specs.List.{list_all, list_any}
 use Rattle.sqlite.specs.Effect.{Database}
 use Rattle.sqlite.specs.Held.{Held, state}
@@ -11,6 +11,7 @@ use Rattle.sqlite.specs.State.{State, HasCleanDisk, Survives}
 use Rattle.sqlite.specs.Table.{Table}
 use Rattle.sqlite_schema.specs.Names.{same_name}
 use Rattle.sqlite_trees.specs.declared.store.Store.{Ghosts}
+use Rattle.gaz_sql_facts.specs.Reasons.{IsHindered}
 use Rattle.gaz_tables.specs.Creating.{HasRoom, IsNewStore}
 use Rattle.gaz_tables.specs.Schema.{meta, received, version2}
 use Rattle.gaz_tables.specs.Stores.{HasTables}
@@ -18,6 +19,7 @@ use Rattle.gaz_tables.specs.Tables.{rows_of}
 use Rattle.gaz_kept.specs.Numbered as numbered
 use Rattle.gaz_kept.specs.declared.refusal.StoreRefusal.{StoreRefusal}
 use Rattle.gaz_kept.specs.declared.refusal.Unread.{Unread}
+use Rattle.gaz_kept.specs.declared.refusal.Unread.TheVariants.{Memory}
 
 -- ---- tables, by their names, which are the same but for the case of ASCII letters
 
@@ -106,6 +108,12 @@ abbrev pub TellsWhether : {S : Type 0} → Ghosts S → Held S → Held S → Li
 TellsWhether g before after register result =
     HasCleanDisk (state g after) → HasTables (state g before).now
     → IfOk result (λ own. IsTrue own ↔ IsOf register (rows_of (state g before).now meta))
+
+-- it isn't told of a store's tables for want of memory alone, or because what was asked was hindered
+abbrev pub UnreadByOthers : {S : Type 0} → Ghosts S → Held S → Held S → Result Bool Unread → Type 0
+UnreadByOthers g before after result =
+    HasCleanDisk (state g after) → HasTables (state g before).now
+    → IfErr result (λ why. (why ≡ Memory) ⊎ IsHindered (state g before) (state g after))
 
 module _ {S : Type 0} (g : Ghosts S) (before after : Held S)
     (result : Result (Unit {0}) StoreRefusal) where

@@ -16,7 +16,7 @@ use Rattle.gaz_sql_facts.specs.Changes.{IsAdded}
 use Rattle.gaz_tables.specs.Versions.{Closes}
 use Rattle.gaz_row_items.specs.Versions.{histories_in, passage_values, passages_in, passing}
 use Rattle.gaz_kept.specs.Histories.{AreSame, Gain}
-use Rattle.gaz_kept.specs.Kept.{ArePassages, AreVersions}
+use Rattle.gaz_kept.specs.Kept.{ArePassages, AreVersions, IsCode}
 
 -- ---- what a statement makes of the rows
 
@@ -54,8 +54,8 @@ ArePassedOnce rows = (a b : PassageRow) → Has rows a → Has rows b → a.uprn
 
 abbrev pub InsertPasses : Type 0
 InsertPasses = (id : Value) (c born gone uprn : ℕ) (x : Custody) (old new : List Row)
-    → is_uprn uprn ≡ true → is_custody x ≡ true → 1 ≤ born → born ≤ gone → AreVersions old
-    → IsAdded (id ∷ passage_values c born gone uprn x) old new
+    → IsCode c → is_uprn uprn ≡ true → is_custody x ≡ true → 1 ≤ born → born ≤ gone
+    → AreVersions old → IsAdded (id ∷ passage_values c born gone uprn x) old new
     → AddsPassing c (passing born gone (uprn, x)) old new
 
 abbrev pub UpdateEnds : Type 0

@@ -9,6 +9,7 @@ ghost use Rattle.gaz_row_items.specs.Cells.{row_values};
 ghost use Rattle.gaz_row_items.specs.Versions.{values_of};
 ghost use Rattle.gaz_kept.specs.Keeping.{AddsItem, ClosesRow, WritesKey, WritesKeys};
 ghost use Rattle.gaz_kept.specs.Keeping.{WritesVersions};
+ghost use Rattle.gaz_kept.specs.Kept.{IsCode};
 
 use gaz_cells::id_of;
 use gaz_ids::{Code, Volume};
@@ -20,6 +21,13 @@ use gaz_row_items::row_cells::{RowCells, cells_of, narrow};
 use gaz_tables::versions;
 use sqlite::{Alter, Error, Transaction};
 use std::alloc::Global;
+
+// A code is a custodian's.
+pub(crate) fn code_known(code: Code)
+    ensures { IsCode code }
+{
+    let _number = code.number();
+}
 
 // Adds a row of these cells, within a transaction.
 pub(crate) fn insert_cells<S: Alter>(
@@ -98,6 +106,7 @@ fn add_item<S: Alter>(
     let Some(row) = adds else {
         return Ok(());
     };
+    code_known(code);
     row.item.known();
     let gone = gone_of(row, volume);
     add_row(tx, alloc, code, volume, gone, &row.item)

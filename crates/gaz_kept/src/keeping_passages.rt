@@ -9,7 +9,7 @@ ghost use Rattle.gaz_tables.specs.Stores.{StaysInside};
 ghost use Rattle.gaz_kept.specs.Keeping.{AddsPassage, EndsRow, WritesNumber, WritesNumbers};
 ghost use Rattle.gaz_kept.specs.Keeping.{WritesVersions};
 
-use crate::keeping_keys::{end_born, insert_cells};
+use crate::keeping_keys::{code_known, end_born, insert_cells};
 use gaz_cells::CUSTODY;
 use gaz_ids::{Code, Hop, Uprn, Volume};
 use gaz_overlay::Overlay;
@@ -61,6 +61,7 @@ fn add_passage<S: Alter>(
         (AddsPassage code volume uprn custody.now) }
     ensures inside { StaysInside S.Store tx.old.conn.now tx.new.conn.now result }
 {
+    code_known(code);
     number_known(uprn);
     custody_known(custody);
     let cells = passage_cells(alloc, uprn, custody)?;

@@ -7,11 +7,12 @@ ghost use Rattle.sqlite.specs.State.{HasCleanDisk, Survives};
 ghost use Rattle.sqlite.specs.declared.types.Value.TheVariants.{Int, Text};
 ghost use Rattle.gaz_sql_facts.specs.Changes.{IsUndone, LeavesTheCommit};
 ghost use Rattle.gaz_tables.specs.Creating.{MayCreate};
+ghost use Rattle.gaz_tables.specs.Stores.{FailsByOthers};
 ghost use Rattle.gaz_kept.specs.Numbered.{FindsMeta, IsAnswer, IsTold, JudgesMeta, JudgesRead};
 ghost use Rattle.gaz_kept.specs.Numbered.{TellsRows, ToldRows};
 ghost use Rattle.gaz_kept.specs.Opening.{IsOpen, IsSettled, Judges, Makes, Rests};
-ghost use Rattle.gaz_kept.specs.Opening.{RestsRefused, Tells, TellsWhether, Untouched, WasOpen};
-ghost use Rattle.gaz_kept.specs.Opening.{has_all, has_any, schema_number};
+ghost use Rattle.gaz_kept.specs.Opening.{RestsRefused, Tells, TellsWhether, UnreadByOthers};
+ghost use Rattle.gaz_kept.specs.Opening.{Untouched, WasOpen, has_all, has_any, schema_number};
 ghost use Rattle.gaz_register.specs.Texts.{register_text};
 
 use crate::naming::{has_all, has_any};
@@ -42,6 +43,7 @@ fn asked<S: Alter>(conn: &mut Connection<S>) -> Result<Vec<Row>, Error>
         → IfOk result (λ rows. IsAnswer S.Store conn.old rows.items) }
     ensures found { FindsMeta S.Store conn.old conn.new result }
     ensures open { WasOpen S.Store conn.old conn.new result }
+    ensures reason { FailsByOthers S.Store conn.old conn.new result }
     ensures undone { HasCleanDisk (state S.Store conn.new)
         → IsUndone (state S.Store conn.old) (state S.Store conn.new) }
     ensures leaves { Survives (state S.Store conn.old) (state S.Store conn.new) (λ _. ⊥) }
@@ -102,6 +104,7 @@ fn read_meta<S: Alter>(
     ensures told { HasCleanDisk (state S.Store conn.new)
         → IfOk result (ToldRows number S.Store conn.old text.now) }
     ensures judged { JudgesRead number S.Store conn.old conn.new text.now result }
+    ensures reason { FailsByOthers S.Store conn.old conn.new result }
     ensures rests { HasCleanDisk (state S.Store conn.new)
         → Rests (state S.Store conn.old) (state S.Store conn.new) }
     ensures leaves { Survives (state S.Store conn.old) (state S.Store conn.new) (λ _. ⊥) }
@@ -201,7 +204,9 @@ pub fn check<S: Alter>(
 
 /// Whether the database is a store of a register. It changes nothing, whatever the answer.
 ///
-/// It isn't where `check` refuses it. `Memory` or `Failed` where memory or the database failed.
+/// It isn't where `check` refuses it. `Memory` or `Failed` where memory or the database failed:
+/// `Failed`, of a store's tables, only where the disk failed, or the connection was shut before or
+/// its steps are limited.
 pub fn is_of<S: Alter>(
     alloc: Global,
     conn: &mut Connection<S>,
@@ -213,6 +218,7 @@ pub fn is_of<S: Alter>(
         → WasOpen S.Store conn.old conn.new result }
     ensures lacking { has_all (state S.Store conn.old).now.schema ≡ false → result ≡ Ok false }
     ensures told { TellsWhether S.Store conn.old conn.new (register_text register.now) result }
+    ensures reason { UnreadByOthers S.Store conn.old conn.new result }
     ensures rests { HasCleanDisk (state S.Store conn.new)
         → Rests (state S.Store conn.old) (state S.Store conn.new) }
     ensures leaves { Survives (state S.Store conn.old) (state S.Store conn.new) (λ _. ⊥) }

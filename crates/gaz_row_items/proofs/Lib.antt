@@ -9,3 +9,4 @@ pub mod PassagesAt
 pub mod KeysNamed
 pub mod Examples
 pub mod PassageExamples
+pub mod RowExamples

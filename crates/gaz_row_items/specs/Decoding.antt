@@ -11,13 +11,13 @@ use Rattle.gaz_records.specs.declared.item.Kind.{Kind}
 use Rattle.gaz_records.specs.declared.key.Key.{Key}
 use Rattle.gaz_cells.specs.Ids.{key_named, kind_in}
 use Rattle.gaz_row_items.specs.Versions.{IsText, text_in}
-use Rattle.gaz_row_items.specs.declared.decoding.RowFault.{RowFault}
-use Rattle.gaz_row_items.specs.declared.decoding.RowFault.TheVariants.{Memory}
+use Rattle.gaz_row_items.specs.declared.fault.RowFault.{RowFault}
+use Rattle.gaz_row_items.specs.declared.fault.RowFault.TheVariants.{Memory}
 
 -- ---- what is told of a row
 
 -- where this is so of what is read, it is told
-abbrev pub IsTold : {T : Type 0} → Type 0 → Result T RowFault → Type 0
+abbrev pub IsTold : {T E : Type 0} → Type 0 → Result T E → Type 0
 IsTold so result = so → OnErr result ⊥
 
 -- where this is so of what is read, it is told, unless memory is lacking

@@ -6,3 +6,4 @@ pub mod Addresses
 pub mod Cells
 pub mod Examples
 pub mod PassageExamples
+pub mod RowExamples

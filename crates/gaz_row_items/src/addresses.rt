@@ -7,7 +7,8 @@ ghost use Rattle.gaz_row_items.specs.Addresses.{SaysKeys, SaysLeast, ShowsAddres
 ghost use Rattle.gaz_row_items.specs.Decoding.{Each, IsToldOrMemory, ShowsItem};
 ghost use Rattle.gaz_row_items.specs.Versions.{text_in};
 
-use crate::decoding::{RowFault, are_one, item_in, key_in};
+use crate::decoding::{are_one, item_in, key_in};
+use crate::fault::RowFault;
 use gaz_overlay::in_order;
 use gaz_records::{Key, Kind, SharedItem};
 use sqlite::Row;
@@ -15,8 +16,8 @@ use std::alloc::Global;
 
 // The keys that the rows name, row by row.
 fn keys_in(alloc: Global, rows: &[Row]) -> Result<Vec<Key>, RowFault>
-    ensures said { IfOk result (λ keys. map (λ r. key_named Kind.Lpi (text_in (column r 0))) rows.now
-        ≡ map Some keys.items) }
+    ensures said { IfOk result (λ keys.
+        map (λ r. key_named Kind.Lpi (text_in (column r 0))) rows.now ≡ map Some keys.items) }
     ensures told { IsToldOrMemory (Each NamesAddress rows.now) result }
 {
     let mut keys = Vec::new(alloc);
@@ -31,6 +32,9 @@ fn keys_in(alloc: Global, rows: &[Row]) -> Result<Vec<Key>, RowFault>
 
 /// The keys that the rows name, in key order. A key that two rows name, as no store writes them,
 /// stands there once.
+///
+/// Never `Wrong` where each row names one, as a store's do; `Memory` where there is none for the
+/// keys.
 pub fn keys_said(alloc: Global, rows: &[Row]) -> Result<Vec<Key>, RowFault>
     ensures said { IfOk result (λ keys. SaysKeys rows.now keys.items) }
     ensures told { IsToldOrMemory (Each NamesAddress rows.now) result }
@@ -68,6 +72,9 @@ fn first_said(alloc: Global, keys: &[Key], rows: &[Row]) -> Result<Option<Shared
 }
 
 /// The address of the least key that the rows name, where there are rows.
+///
+/// Never `Wrong` where each row says an address, as a store's do; `Memory` where there is none for
+/// the keys or the address.
 pub fn least_said(alloc: Global, rows: &[Row]) -> Result<Option<SharedItem>, RowFault>
     ensures said { IfOk result (SaysLeast rows.now) }
     ensures told { IsToldOrMemory (Each (ShowsItem Kind.Lpi) rows.now) result }

@@ -8,20 +8,12 @@ ghost use Rattle.gaz_row_items.specs.Decoding.{Each, HasBody, HasItemAt, IsBodyO
 ghost use Rattle.gaz_row_items.specs.Decoding.{IsTold, IsToldOrMemory, NamesKey, ReadsAt};
 ghost use Rattle.gaz_row_items.specs.Versions.{IsText, IsWhole, text_in};
 
+use crate::fault::{RowFault, WrongRow};
 use gaz_cells::{Bodies, key_named};
 use gaz_records::{FieldFault, Item, Key, Kind, SharedItem, item_of_text, key_of};
 use sqlite::Row;
 use sqlite::types::ValueRef;
 use std::alloc::Global;
-
-/// Why a row isn't read.
-#[derive(Clone, Copy)]
-pub enum RowFault {
-    /// Out of memory.
-    Memory,
-    /// No store writes such a row.
-    Wrong,
-}
 
 /// The kind of a key.
 pub fn kind_in(key: &Key) -> Kind
@@ -36,36 +28,36 @@ pub fn kind_in(key: &Key) -> Kind
     }
 }
 
-/// The whole number in a column, where one stands there.
-pub fn number(row: &Row, at: usize) -> Result<u64, RowFault>
+/// The whole number from 0 on in a column. `WrongRow` where none stands there.
+pub fn number(row: &Row, at: usize) -> Result<u64, WrongRow>
     ensures said { IfOk result (λ n. column row.now at ≡ Int (pos n)) }
     ensures told { IsTold (IsWhole (column row.now at)) result }
 {
     match row.get_ref(at) {
         Ok(ValueRef::Int(n)) if n >= 0 => Ok(n as u64),
-        _ => Err(RowFault::Wrong),
+        _ => Err(WrongRow),
     }
 }
 
-/// The text in a column, where one stands there.
-pub fn text(row: &Row, at: usize) -> Result<&[u8], RowFault>
+/// The text in a column. `WrongRow` where none stands there.
+pub fn text(row: &Row, at: usize) -> Result<&[u8], WrongRow>
     ensures said { IfOk result (λ t. column row.now at ≡ Text t.now) }
     ensures told { IsTold (IsText (column row.now at)) result }
 {
     match row.get_ref(at) {
         Ok(ValueRef::Text(text)) => Ok(text),
-        _ => Err(RowFault::Wrong),
+        _ => Err(WrongRow),
     }
 }
 
-/// The key of a kind that the id in a column names.
-pub fn key_in(kind: Kind, row: &Row, at: usize) -> Result<Key, RowFault>
+/// The key of a kind that the id in a column names. `WrongRow` where it names none.
+pub fn key_in(kind: Kind, row: &Row, at: usize) -> Result<Key, WrongRow>
     ensures said { IfOk result (λ k. key_named kind (text_in (column row.now at)) ≡ Some k) }
     ensures told { IsTold (NamesKey kind row.now at) result }
 {
     match key_named(kind, text(row, at)?) {
         Some(key) => Ok(key),
-        None => Err(RowFault::Wrong),
+        None => Err(WrongRow),
     }
 }
 
@@ -77,14 +69,14 @@ pub(crate) fn are_one(a: &Key, b: &Key) -> bool
 }
 
 // An item, where it stands at the key.
-fn item_at(key: &Key, item: Item) -> Result<Item, RowFault>
+fn item_at(key: &Key, item: Item) -> Result<Item, WrongRow>
     ensures said { IfOk result (λ x. (x ≡ item) × (key_of x ≡ key.now)) }
     ensures told { IsTold (key_of item ≡ key.now) result }
 {
     if are_one(&key_of(&item), key) {
         Ok(item)
     } else {
-        Err(RowFault::Wrong)
+        Err(WrongRow)
     }
 }
 
@@ -95,7 +87,7 @@ fn read_at(key: &Key, read: Result<Item, FieldFault>) -> Result<Item, RowFault>
     ensures memory { read ≡ Err FieldFault.Memory → result ≡ Err RowFault.Memory }
 {
     match read {
-        Ok(item) => item_at(key, item),
+        Ok(item) => Ok(item_at(key, item)?),
         Err(FieldFault::Memory) => Err(RowFault::Memory),
         Err(_) => Err(RowFault::Wrong),
     }
@@ -118,6 +110,9 @@ fn next_item(bodies: &mut Bodies<'_>, key: &Key, body: &[u8]) -> Result<Item, Ro
 }
 
 /// The item at a key that the body in a column says.
+///
+/// Never `Wrong` where it says one at this key, as in a store's row; `Memory` where there is none
+/// for the item.
 pub fn item_in(alloc: Global, key: &Key, row: &Row, at: usize) -> Result<SharedItem, RowFault>
     ensures said { IfOk result (IsItemAt row.now at key.now) }
     ensures told { IsToldOrMemory (HasItemAt row.now at key.now) result }
@@ -130,6 +125,9 @@ pub fn item_in(alloc: Global, key: &Key, row: &Row, at: usize) -> Result<SharedI
 }
 
 /// The item at a key that the body in a column says, read by a reader of the bodies of many rows.
+///
+/// Never `Wrong` where it says one at this key, as in a store's row; `Memory` where there is none
+/// for the item.
 pub fn next_item_in(
     alloc: Global,
     bodies: &mut Bodies<'_>,
@@ -148,6 +146,9 @@ pub fn next_item_in(
 }
 
 /// The bodies in a column of rows, each ended by LF, as lines for one reader.
+///
+/// Never `Wrong` where a text stands there in each row, as in a store's; `Memory` where there is
+/// none for the lines.
 pub fn body_lines(alloc: Global, rows: &[Row], at: usize) -> Result<Vec<u8>, RowFault>
     ensures { IsToldOrMemory (Each (λ r. IsText (column r at)) rows.now) result }
 {

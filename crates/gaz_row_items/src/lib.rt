@@ -4,6 +4,7 @@
 
 pub mod addresses;
 pub mod decoding;
+pub mod fault;
 pub mod laws;
 pub mod newest;
 pub mod passages;

@@ -5,7 +5,8 @@ ghost use Rattle.gaz_row_items.specs.Newest.{HasLife, HasNewest, HasStood};
 ghost use Rattle.gaz_row_items.specs.Newest.{SaysLife, SaysNewest, SaysStood, current_in};
 ghost use Rattle.gaz_row_items.specs.Newest.{item_after, stood_by, stood_of};
 
-use crate::decoding::{RowFault, item_in, number};
+use crate::decoding::{item_in, number};
+use crate::fault::{RowFault, WrongRow};
 use gaz_ids::LAST_VOLUME;
 use gaz_overlay::Stood;
 use gaz_records::{Key, SharedItem};
@@ -38,6 +39,9 @@ fn life_in(alloc: Global, key: &Key, row: &Row) -> Result<Life, RowFault>
 }
 
 /// What the first row says, where there is one.
+///
+/// Never `Wrong` where it says a life at the key, as a store's do; `Memory` where there is none for
+/// the item.
 pub fn newest_said(alloc: Global, key: &Key, rows: &[Row]) -> Result<Option<Life>, RowFault>
     ensures said { IfOk result (SaysNewest key.now rows.now) }
     ensures told { IsToldOrMemory (HasNewest key.now rows.now) result }
@@ -89,8 +93,9 @@ pub fn stood_by(life: &Option<Life>) -> Stood
     }
 }
 
-/// What stands at the key of which the first row is the newest; its item isn't read.
-pub fn stood_said(rows: &[Row]) -> Result<Stood, RowFault>
+/// What stands at the key of which the first row is the newest; its item isn't read. `WrongRow`
+/// where no number stands for born or for gone.
+pub fn stood_said(rows: &[Row]) -> Result<Stood, WrongRow>
     ensures said { IfOk result (SaysStood rows.now) }
     ensures told { IsTold (HasStood rows.now) result }
 {

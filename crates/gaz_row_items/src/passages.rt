@@ -4,7 +4,8 @@ ghost use Rattle.gaz_row_items.specs.Decoding.{Each, IsTold};
 ghost use Rattle.gaz_row_items.specs.NewestPassages.{IsBare, SaysPassage, SaysPassed};
 ghost use Rattle.gaz_row_items.specs.NewestPassages.{ShowsPassage, born_of, custody_of};
 
-use crate::decoding::{RowFault, number, text};
+use crate::decoding::{number, text};
+use crate::fault::WrongRow;
 use gaz_cells::custody_told;
 use gaz_views::Custody;
 use sqlite::Row;
@@ -18,7 +19,7 @@ pub struct Passed {
 }
 
 // No language and no text stand in a row from a column on, as in none of kind 92.
-fn check_bare(row: &Row, at: u8) -> Result<(), RowFault>
+fn check_bare(row: &Row, at: u8) -> Result<(), WrongRow>
     ensures said { IfOk result (λ done. IsBare at row.now) }
     ensures told { IsTold (IsBare at row.now) result }
 {
@@ -26,12 +27,13 @@ fn check_bare(row: &Row, at: u8) -> Result<(), RowFault>
     if number(row, first + 5)? == 0 && text(row, first + 6)?.is_empty() {
         Ok(())
     } else {
-        Err(RowFault::Wrong)
+        Err(WrongRow)
     }
 }
 
 /// What a row says from a column on, which has born, gone, live, street, hop, lang and body there.
-pub fn passed_in(row: &Row, at: u8) -> Result<Passed, RowFault>
+/// `WrongRow` where it doesn't say what became of a number.
+pub fn passed_in(row: &Row, at: u8) -> Result<Passed, WrongRow>
     ensures said { IfOk result (SaysPassed at row.now) }
     ensures told { IsTold (ShowsPassage at row.now) result }
 {
@@ -41,12 +43,13 @@ pub fn passed_in(row: &Row, at: u8) -> Result<Passed, RowFault>
     let live = number(row, first + 2)?;
     let other = number(row, first + 3)?;
     let hop = number(row, first + 4)?;
-    let custody = custody_told(live, other, hop).ok_or(RowFault::Wrong)?;
+    let custody = custody_told(live, other, hop).ok_or(WrongRow)?;
     Ok(Passed { born, custody })
 }
 
-/// What the first row says, where there is one.
-pub fn passage_said(rows: &[Row]) -> Result<Option<Passed>, RowFault>
+/// What the first row says, where there is one. `WrongRow` where it doesn't say what became of a
+/// number.
+pub fn passage_said(rows: &[Row]) -> Result<Option<Passed>, WrongRow>
     ensures said { IfOk result (SaysPassage rows.now) }
     ensures told { IsTold (Each (ShowsPassage 0) rows.now) result }
 {

@@ -6,7 +6,11 @@ use Rattle.sqlite.specs.declared.error.Error.{Error}
 use Rattle.sqlite.specs.declared.error.Error.TheVariants.{SqliteFailure}
 use Rattle.sqlite.specs.declared.error.ErrorCode.TheVariants.{OutOfMemory}
 
--- memory was lacking, the disk failed, the connection was shut, or its steps are limited
+-- the disk failed meanwhile, the connection was shut before, or its steps are limited
+abbrev pub IsHindered : State → State → Type 0
+IsHindered old new = MoreFaults old.faults new.faults
+    ⊎ ((old.is_open ≡ false) ⊎ IsSome old.step_limit)
+
+-- memory was lacking, or what is asked was hindered
 abbrev pub HasReason : State → State → Error → Type 0
-HasReason old new e = (e ≡ SqliteFailure OutOfMemory) ⊎ (MoreFaults old.faults new.faults
-    ⊎ ((old.is_open ≡ false) ⊎ IsSome old.step_limit))
+HasReason old new e = (e ≡ SqliteFailure OutOfMemory) ⊎ IsHindered old new

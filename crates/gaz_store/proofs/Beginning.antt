@@ -19,7 +19,8 @@ use Rattle.gaz_kept.specs.Stands.{Stands}
 use Rattle.gaz_kept.proofs.Migrated.{migration_stands}
 use Rattle.gaz_kept.proofs.MetaRows.{create_opens}
 use Rattle.gaz_kept.proofs.Stands.{tables_stand}
-use Rattle.gaz_calls.specs.Remembered.{AreSo, Remembered}
+use Rattle.gaz_calls.specs.Remembered.{AreSo}
+use Rattle.gaz_counts.specs.declared.counts.Counts.{Counts}
 use Rattle.gaz_store.specs.Migrating.{IsMoved}
 use Rattle.gaz_store.specs.Opened.{IsMade, IsOpened}
 use Rattle.gaz_store.specs.Store.{StoreStands, seen_beside}
@@ -29,7 +30,7 @@ use Rattle.gaz_kept.proofs.LawfulViews.{content_lawful}
 use Rattle.gaz_kept.proofs.SameTrees.{same_content}
 use Rattle.gaz_store.proofs.Whole.{kept_of, whole_still}
 
-module _ (new : State) (a : Remembered) (so : (files : List Row) → AreSo a files) (j : Judging) (idle : j ≡ Idle) where
+module _ (new : State) (a : Counts) (so : (files : List Row) → AreSo a files) (j : Judging) (idle : j ≡ Idle) where
   standing : (register : List ℕ) → IsKept new.now → IsOf register (rows_of new.now meta) → StoreStands register new a Idle
   standing register kept whose = record { tables = record { kept = kept; whose = whose; so = so (rows_of new.now received); lawful = content_lawful new.now kept empty_view lawful_empty }; beside = tt }
 

@@ -24,7 +24,8 @@ use Rattle.gaz_kept.proofs.Stands.{tables_stand}
 use Rattle.gaz_kept.proofs.SameTrees.{same_content}
 use Rattle.gaz_calls.specs.Altering.{Alters, MayWrite, Writes}
 use Rattle.gaz_calls.specs.Asking.{Tallies}
-use Rattle.gaz_calls.specs.Remembered.{AreSo, Remembered}
+use Rattle.gaz_calls.specs.Remembered.{AreSo}
+use Rattle.gaz_counts.specs.declared.counts.Counts.{Counts}
 use Rattle.gaz_calls.specs.Seen.{IsUnharmed, LeavesKept, MayLeave, StandsFor, full_at, left_lawful}
 use Rattle.gaz_calls.specs.Writing.{Comes, IsNewIn, IsNextIn, RejectsNext, WhereSo}
 use Rattle.gaz_calls.specs.declared.tables.Tables.{Tables}
@@ -33,7 +34,7 @@ use Rattle.gaz_store.proofs.Whole.{kept_of, whole_then}
 use Rattle.gaz_store.proofs.Whose.{of_files}
 
 -- a connection to a store of this register, with what is at hand and a judgement beside it, and so many failures
-abbrev pub seen_of : List ℕ → State → Remembered → Progress → View → ℕ → Seen
+abbrev pub seen_of : List ℕ → State → Counts → Progress → View → ℕ → Seen
 seen_of register s at_hand progress working failures = record {
   content = content_in s.now working;
   stands = StandsFor register s at_hand working;
@@ -49,7 +50,7 @@ seen_of register s at_hand progress working failures = record {
   left_lawful = left_lawful register s;
 }
 
-module _ {T : Type 0} (register : List ℕ) (old new : State) (before after : Remembered) (p q : Progress) (w : View) (f g : ℕ) (r : Result T ShelfFault) (Becomes : Database → Database → Type 0)
+module _ {T : Type 0} (register : List ℕ) (old new : State) (before after : Counts) (p q : Progress) (w : View) (f g : ℕ) (r : Result T ShelfFault) (Becomes : Database → Database → Type 0)
     (asked : Type 0) (becomes : Content)
     (alters : Alters old new r Becomes) (tallies : Tallies f g r)
     (goes : StandsFor register old before w → asked → (db : Database) → Becomes old.now db → Stands db w becomes × IsLawful becomes × IsOf register (rows_of db meta))

@@ -25,7 +25,8 @@ use Rattle.gaz_kept.proofs.Rewritten.{files_still, rewrites_stand}
 use Rattle.gaz_kept.proofs.SameTrees.{same_content}
 use Rattle.gaz_calls.specs.Altering.{AltersTables}
 use Rattle.gaz_calls.specs.Growing.{as_kept, register_then}
-use Rattle.gaz_calls.specs.Remembered.{AreSo, Remembered}
+use Rattle.gaz_calls.specs.Remembered.{AreSo}
+use Rattle.gaz_counts.specs.declared.counts.Counts.{Counts}
 use Rattle.gaz_calls.specs.Seen.{IsUnharmed, LeavesKept, MayLeave, StandsFor}
 use Rattle.gaz_calls.specs.declared.growing.ExtendFault.{ExtendFault}
 use Rattle.gaz_calls.specs.declared.tables.Tables.{Tables}
@@ -163,7 +164,7 @@ module _ {S : Type 0} {g : Ghosts S} (was grown : RegisterValue) (old new : Tabl
       ]
 
 -- what is told of the tables, of the store
-keeps_beside : (register later : List ℕ) (old new : State) (a b : Remembered) (j : Judging) (f g : ℕ) (r : Result (Unit {0}) ExtendFault) → IsNotOpen (progress_of j)
+keeps_beside : (register later : List ℕ) (old new : State) (a b : Counts) (j : Judging) (f g : ℕ) (r : Result (Unit {0}) ExtendFault) → IsNotOpen (progress_of j)
     → KeepsContent (seen_of register old a (progress_of j) empty_view f) (seen_of later new b (progress_of (cleared j)) empty_view g) r
     → KeepsContent (seen_beside register old a j f) (seen_beside later new b (cleared j) g) r
 keeps_beside register later old new a b (Open m) f g r not e = absurd (not m.code refl)

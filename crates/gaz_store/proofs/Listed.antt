@@ -28,7 +28,7 @@ use Rattle.gaz_loaded.specs.Lives.{IsBehind, IsBy, Told}
 use Rattle.gaz_loaded.specs.Telling as listed
 use Rattle.gaz_loaded.specs.Telling.{AreAbove, AreNext, last_of, told}
 use Rattle.gaz_loaded.specs.declared.listed.Life.{Life}
-use Rattle.gaz_calls.specs.Asking.{AsksTablesOf}
+use Rattle.gaz_calls.specs.Asking.{AsksTables}
 use Rattle.gaz_answers.specs.Lives.{IsRowBehind, SaysLife, TellsLives, is_items}
 use Rattle.gaz_answers.specs.Volumes.{TellsVolumes}
 use Rattle.gaz_calls.specs.declared.tables.Tables.{Tables}
@@ -39,18 +39,18 @@ use Rattle.gaz_store.specs.declared.progress.Judging.{Judging}
 use Rattle.gaz_store.specs.declared.store.Store.{Store}
 
 -- after a call that only asks, the tables are as they were
-pub tables_rest : {S R : Type 0} {store : Ghosts S} {IsSo : Database → Type 0} {T : Type 0} (register : List ℕ) (old : Store S R store) (tables : Tables S store) (k : Judging) (r : Result T ShelfFault) (P : Database → T → Type 0)
-    → AsksTablesOf IsSo old.tables tables r P → TablesRest register old (record old { tables = tables; judging = k })
+pub tables_rest : {S R : Type 0} {store : Ghosts S} {T : Type 0} (register : List ℕ) (old : Store S R store) (tables : Tables S store) (k : Judging) (r : Result T ShelfFault) (P : Database → T → Type 0)
+    → AsksTables old.tables tables r P → TablesRest register old (record old { tables = tables; judging = k })
 tables_rest register old tables k r P asks stood unharmed = asks.asks.rests unharmed stood.tables.kept.tables
 
 -- while the tables rest, they tell the same
-pub lives_rest : {S R : Type 0} {store : Ghosts S} {IsSo : Database → Type 0} {T : Type 0} (register : List ℕ) (old : Store S R store) (tables : Tables S store) (k : Judging) (r : Result T ShelfFault) (P : Database → T → Type 0)
-    → AsksTablesOf IsSo old.tables tables r P
+pub lives_rest : {S R : Type 0} {store : Ghosts S} {T : Type 0} (register : List ℕ) (old : Store S R store) (tables : Tables S store) (k : Judging) (r : Result T ShelfFault) (P : Database → T → Type 0)
+    → AsksTables old.tables tables r P
     → (seen_in register old).stands → (seen_in register (record old { tables = tables; judging = k })).unharmed → lives_kept (record old { tables = tables; judging = k }) ≡ lives_kept old
 lives_rest register old tables k r P asks stood unharmed = ap (λ (db : Database). filter_map told_in (rows_of db version2)) (tables_rest register old tables k r P asks stood unharmed)
 
-pub passages_rest : {S R : Type 0} {store : Ghosts S} {IsSo : Database → Type 0} {T : Type 0} (register : List ℕ) (old : Store S R store) (tables : Tables S store) (k : Judging) (r : Result T ShelfFault) (P : Database → T → Type 0)
-    → AsksTablesOf IsSo old.tables tables r P
+pub passages_rest : {S R : Type 0} {store : Ghosts S} {T : Type 0} (register : List ℕ) (old : Store S R store) (tables : Tables S store) (k : Judging) (r : Result T ShelfFault) (P : Database → T → Type 0)
+    → AsksTables old.tables tables r P
     → (seen_in register old).stands → (seen_in register (record old { tables = tables; judging = k })).unharmed → passages_kept (record old { tables = tables; judging = k }) ≡ passages_kept old
 passages_rest register old tables k r P asks stood unharmed =
     let said : Database → ℕ → List PassageRow = λ db c. passages_in (rows_of db version2) c in

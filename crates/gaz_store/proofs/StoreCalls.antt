@@ -14,7 +14,7 @@ use Rattle.gaz_keeper.specs.declared.fault.ShelfFault.{ShelfFault}
 use Rattle.gaz_kept.specs.Contents.{content_in}
 use Rattle.gaz_calls.specs.Altering.{Writes}
 use Rattle.gaz_calls.specs.Asking.{Asks, AsksTables, Fails, IsAnyway, Tallies}
-use Rattle.gaz_calls.specs.Remembered.{Remembered}
+use Rattle.gaz_counts.specs.declared.counts.Counts.{Counts}
 use Rattle.gaz_calls.specs.Writing.{AppliesNext, Comes, IsNewIn, IsNextIn, RejectsNext, WhereSo}
 use Rattle.gaz_calls.specs.declared.tables.Tables.{Tables}
 use Rattle.gaz_calls.proofs.Seeing.{asks_nothing}
@@ -31,7 +31,7 @@ use Rattle.gaz_store.proofs.StoreGoes.{goes_idle, goes_kept, goes_not_kept, goes
 -- ---- without a judgement
 
 -- what is told of the tables, of the store
-pub enters_beside : {T : Type 0} (register : List ℕ) (old new : State) (a b : Remembered) (j : Judging) (f g : ℕ) (r : Result T ShelfFault) (Asked : View → Type 0) (makes : View → Content)
+pub enters_beside : {T : Type 0} (register : List ℕ) (old new : State) (a b : Counts) (j : Judging) (f g : ℕ) (r : Result T ShelfFault) (Asked : View → Type 0) (makes : View → Content)
     → IsNotOpen (progress_of j)
     → Enters (seen_of register old a (progress_of j) empty_view f) (seen_of register new b (progress_of (cleared j)) empty_view g) r (Asked empty_view) (makes empty_view)
     → Enters (seen_beside register old a j f) (seen_beside register new b (cleared j) g) r (Asked (working_of old.now j)) (makes (working_of old.now j))

@@ -39,7 +39,8 @@ use Rattle.gaz_kept.proofs.KeepStands.{keep_stands}
 use Rattle.gaz_kept.proofs.SameTrees.{same_content}
 use Rattle.gaz_calls.specs.Altering.{Alters, MayWrite}
 use Rattle.gaz_calls.specs.Asking.{Asks, Tallies}
-use Rattle.gaz_calls.specs.Remembered.{AreSo, Remembered}
+use Rattle.gaz_calls.specs.Remembered.{AreSo}
+use Rattle.gaz_counts.specs.declared.counts.Counts.{Counts}
 use Rattle.gaz_calls.specs.Seen.{IsUnharmed, LeavesKept, MayLeave, StandsFor}
 use Rattle.gaz_calls.specs.Writing.{AppliesNext, IsNextIn, WhereSo}
 use Rattle.gaz_store.specs.Beside.{Makes, Turns}
@@ -53,7 +54,7 @@ use Rattle.gaz_store.proofs.Whose.{of_volume}
 
 -- ---- a judgement is given up, or begins
 
-pub goes_idle : (register : List ℕ) (s : State) (a : Remembered) (j : Judging) (f : ℕ)
+pub goes_idle : (register : List ℕ) (s : State) (a : Counts) (j : Judging) (f : ℕ)
     → Goes (seen_beside register s a j f) (seen_beside register s a Idle f) (Ok (tt {0})) ⊤ (after_abandon (content_in s.now (working_of s.now j))) None keeper.Idle
 goes_idle register s a j f = record {
   harm = λ h. h;
@@ -84,7 +85,7 @@ told_nothing rows = record { told = λ k volume is. absurd (never_since k volume
         let none : NoRow ≡ Since volume = sym (ap (λ o. option_map_or (λ (t : Touch). t.stood) o NoRow) (finite.get-empty key_cmp k)) ∙ is in
         cc
 
-module _ (register : List ℕ) (s : State) (a : Remembered) (j : Judging) (f c : ℕ) where
+module _ (register : List ℕ) (s : State) (a : Counts) (j : Judging) (f c : ℕ) where
   abbrev db : Database
   db = s.now
 
@@ -131,7 +132,7 @@ stays old new r P asks kept k l =
       content = l.content;
     }
 
-module _ (register : List ℕ) (old new : State) (a b : Remembered) (m n : Judgement) (f g : ℕ) (becomes : View → View) (lawful : (w : View) → IsLawfulView w → IsLawfulView (becomes w))
+module _ (register : List ℕ) (old new : State) (a b : Counts) (m n : Judgement) (f g : ℕ) (becomes : View → View) (lawful : (w : View) → IsLawfulView w → IsLawfulView (becomes w))
     (code : n.code ≡ m.code) (asks : Asks old new (Ok (tt {0})) (λ db x. Turns db m n becomes)) (tallies : Tallies f g (Ok (tt {0}))) (same : b ≡ a) where
   abbrev w : View
   w = view_made old.now m
@@ -172,7 +173,7 @@ module _ (register : List ℕ) (old new : State) (a b : Remembered) (m n : Judge
   }
 
 -- a fault breaks the judgement
-pub goes_wrong : {T A : Type 0} (register : List ℕ) (old new : State) (a b : Remembered) (j : Judging) (f g : ℕ) (e : ShelfFault) (one : Result A ShelfFault) (P : Database → A → Type 0) (becomes : Content) (after : keeper.Progress)
+pub goes_wrong : {T A : Type 0} (register : List ℕ) (old new : State) (a b : Counts) (j : Judging) (f g : ℕ) (e : ShelfFault) (one : Result A ShelfFault) (P : Database → A → Type 0) (becomes : Content) (after : keeper.Progress)
     → Asks old new one P → Tallies {T = T} f g (Err e) → b ≡ a
     → Goes {T = T} (seen_beside register old a j f) (seen_beside register new b Broken g) (Err e) ⊤ becomes None after
 goes_wrong {T} register old new a b j f g e one P becomes after asks tallies same = record {
@@ -195,7 +196,7 @@ goes_wrong {T} register old new a b j f g e one P becomes after asks tallies sam
 
 -- ---- a judgement is kept
 
-module _ (register : List ℕ) (old new : State) (a b : Remembered) (m : Judgement) (f g : ℕ) (r : Result (Unit {0}) ShelfFault)
+module _ (register : List ℕ) (old new : State) (a b : Counts) (m : Judgement) (f g : ℕ) (r : Result (Unit {0}) ShelfFault)
     (alters : Alters old new r (WhereSo a (AppliesNext m.code m.changes))) (tallies : Tallies f g r)
     (at_hand : IsUnharmed new → IsKept old.now → AreSo a (rows_of old.now received) → IsNextIn m.code old.now → AreSo b (rows_of new.now received)) where
   abbrev worked : View

@@ -26,8 +26,9 @@ use Rattle.gaz_kept.specs.Files.{files_in, reached_in}
 use Rattle.gaz_kept.specs.Kept.{IsKept}
 use Rattle.gaz_kept.specs.Opening.{IsOf}
 use Rattle.gaz_kept.specs.LastViews.{last_in}
-use Rattle.gaz_calls.specs.Asking.{Asks, AsksTables, AsksTablesOf, Recalls, Tallies}
-use Rattle.gaz_calls.specs.Remembered.{AreSo, Remembered, held_in}
+use Rattle.gaz_calls.specs.Asking.{Asks, AsksTables, Recalls, Tallies}
+use Rattle.gaz_calls.specs.Remembered.{AreSo, held_in}
+use Rattle.gaz_counts.specs.declared.counts.Counts.{Counts}
 use Rattle.gaz_calls.specs.Seen.{IsUnharmed}
 use Rattle.gaz_calls.specs.declared.tables.Tables.{Tables}
 use Rattle.gaz_calls.proofs.Answered.{asked_more}
@@ -91,7 +92,7 @@ goes_on_alone j = record { progress = refl; working = λ db. refl }
 
 -- ---- a call that asks is one that reads
 
-module _ {T : Type 0} (register : List ℕ) (old new : State) (before after : Remembered) (j k : Judging) (f g : ℕ) (r : Result T ShelfFault)
+module _ {T : Type 0} (register : List ℕ) (old new : State) (before after : Counts) (j k : Judging) (f g : ℕ) (r : Result T ShelfFault)
     (IsRight : Database → T → Type 0) (Q : T → Type 0) (goes_on : GoesOnAs (cleared j) k)
     (beside : IsUnharmed new → IsKept old.now → StandsBeside old.now (cleared j) → StandsBeside old.now k)
     (asks : Asks old new r IsRight) (tallies : Tallies f g r)
@@ -141,7 +142,7 @@ module _ {T : Type 0} (register : List ℕ) (old new : State) (before after : Re
   }
 
 -- and one that leaves the judgement as it is
-module _ {T : Type 0} (register : List ℕ) (old new : State) (before after : Remembered) (j : Judging) (f g : ℕ) (r : Result T ShelfFault)
+module _ {T : Type 0} (register : List ℕ) (old new : State) (before after : Counts) (j : Judging) (f g : ℕ) (r : Result T ShelfFault)
     (IsRight : Database → T → Type 0) (Q : T → Type 0) (asks : Asks old new r IsRight) (tallies : Tallies f g r)
     (at_hand : IsUnharmed new → IsKept old.now → AreSo before (rows_of old.now received) → AreSo after (rows_of old.now received))
     (goes : (x : T) → StoreStands register old before j → IsRight old.now x → Q x) where
@@ -172,7 +173,7 @@ module _ {S R : Type 0} {store : Ghosts S} {T : Type 0} (register : List ℕ) (o
   Tells Q j = Reads (seen_in register old) (seen_in register (record old { tables = tables; judging = j })) r Q
 
   -- what is asked of the board
-  pub tells : {IsSo : Database → Type 0} (P : Database → T → Type 0) (Q : T → Type 0) → AsksTablesOf IsSo old.tables tables r P → ((x : T) → IsKept db → P db x → Q x) → Tells Q k
+  pub tells : (P : Database → T → Type 0) (Q : T → Type 0) → AsksTables old.tables tables r P → ((x : T) → IsKept db → P db x → Q x) → Tells Q k
   tells P Q asks goes =
       subst (Tells Q) (sym is_cleared)
       (store_reads register _ _ _ _ old.judging _ _ r P Q asks.asks asks.tallies (λ h kept so. subst (λ m. AreSo m (rows_of db received)) (sym asks.at_hand) so)

@@ -10,7 +10,7 @@ use Rattle.gaz_keeper.specs.Keeper.{IsAtHand, Progress, Seen}
 use Rattle.gaz_overlay.specs.Laid.{laid}
 use Rattle.gaz_kept.specs.Contents.{content_in}
 use Rattle.gaz_kept.specs.LastViews.{last_in}
-use Rattle.gaz_calls.specs.Remembered.{Remembered}
+use Rattle.gaz_counts.specs.declared.counts.Counts.{Counts}
 use Rattle.gaz_calls.specs.Seen.{IsUnharmed, LeavesKept, MayLeave, StandsFor, full_at, left_lawful}
 use Rattle.gaz_store.specs.Beside.{Beside, Makes}
 use Rattle.gaz_store.specs.declared.judgement.Judgement.{Judgement}
@@ -66,12 +66,12 @@ IsOfView db Broken c IsSo = IsSo (last_in db c)
 -- ---- the store
 
 -- the tables are a store's of this register, and so is what stands beside them
-pub record StoreStands (register : List ℕ) (s : State) (at_hand : Remembered) (judging : Judging)
+pub record StoreStands (register : List ℕ) (s : State) (at_hand : Counts) (judging : Judging)
     : Type 0 where
   pub tables : StandsFor register s at_hand (working_of s.now judging)
   pub beside : StandsBeside s.now judging
 
-abbrev pub seen_beside : List ℕ → State → Remembered → Judging → ℕ → Seen
+abbrev pub seen_beside : List ℕ → State → Counts → Judging → ℕ → Seen
 seen_beside register s at_hand judging failures = record {
   content = content_in s.now (working_of s.now judging);
   stands = StoreStands register s at_hand judging;

@@ -1,6 +1,7 @@
 -- What the texts over `meta` mean and do.
-use Rattle.std.proofs.Common.{◌≡◌, ℕ, pos, List, [], ◌∷◌, codes, Some, Ok, Err, Result, IfOk, OnOk, Vec, refl, ap, ◌∙◌}
-use Rattle.std.specs.Prelude.{IsTrue}
+use Rattle.std.proofs.Common.{◌≡◌, ◌⊎◌, inl, inr, ℕ, pos, List, [], ◌∷◌, codes, Some, Ok, Err, Result, IfOk, OnOk, Vec, true≢false, refl, ap, sym, subst, ◌∙◌}
+use Rattle.std.specs.Prelude.{IfErr, IsSome, IsTrue}
+use Rattle.std.proofs.lemmas.Result.{IfErr-weaker}
 use Rattle.std.specs.declared.alloc.Global.{Global}
 use Rattle.sqlite_tied.specs.Compute.{everything}
 use Rattle.sqlite_rules.specs.Lists.{Has}
@@ -15,17 +16,21 @@ use Rattle.sqlite.specs.declared.types.Value.TheVariants.{Null, Int, Text}
 use Rattle.sqlite.specs.Edit.{id_in}
 use Rattle.sqlite.specs.Effect.{Database}
 use Rattle.sqlite.specs.Order.{Row}
-use Rattle.sqlite.specs.State.{State, ExecutesInside}
+use Rattle.sqlite.specs.State.{State, ExecutesInside, FailsToQuery, IsTooLate}
+use Rattle.sqlite.proofs.Callers.{IsPlain}
+use Rattle.sqlite_schema.specs.declared.schema.Schema.{Schema}
 use Rattle.sqlite.specs.Term.{Term, lit, col}
 use Rattle.sqlite.specs.View.{is_int}
 use Rattle.gaz_sql_facts.specs.Changes.{InPlace}
 use Rattle.gaz_sql_facts.specs.Meaning.{MeansAnywhere, OnTable}
+use Rattle.gaz_sql_facts.specs.Reasons.{HasReason}
 use Rattle.gaz_sql_facts.specs.Selects.{selecting, equals, Selects}
+use Rattle.gaz_sql_facts.proofs.Reasons.{Suits, reason_over}
 use Rattle.gaz_sql_facts.proofs.Free.{free}
 use Rattle.gaz_sql_facts.proofs.Inserts.{inserted}
 use Rattle.gaz_tables.specs.Shows.{IsAnyRow}
 use Rattle.gaz_tables.proofs.Shown.{answered, shows_some}
-use Rattle.gaz_tables.proofs.Standing.{apart, changes_table, command_here, means_here, rest, stands}
+use Rattle.gaz_tables.proofs.Standing.{apart, changes_table, command_here, means_here, rest, stands, table}
 use Rattle.gaz_tables.proofs.Tests.{Test, SuitsAll, means, met}
 use Rattle.gaz_sql_facts.proofs.TextMoves.{anywhere}
 use Rattle.gaz_sql_facts.proofs.Texts.{IsSelect, is_select}
@@ -49,6 +54,22 @@ rows_anywhere = anywhere meta rows_text rows_on refl refl (record { read = _; is
 
 pub rows_here : (db : Database) → HasTable meta db.schema → IsSelect db.schema rows_text (selecting (tree_of meta db.schema) [] rows_terms [] (lit (Int (pos 2)))) (codes "id" ∷ codes "number" ∷ codes "register" ∷ [])
 rows_here db has = is_select db.schema rows_text _ _ (means_here meta db.schema has rows_text rows_on rows_anywhere)
+
+rows_suits : Suits meta rows_text rows_on []
+unfolding everything
+rows_suits = record { low = refl; asked = refl; typed = refl }
+
+pub rows_reason : (old new : State) (r : Result (Vec Row Global) Error) → HasTable meta old.now.schema → IfErr r (λ e. FailsToQuery rows_text [] old new e ⊎ IsTooLate rows_text [] old new e) → IfErr r (HasReason old new)
+rows_reason old new r has fails = IfErr-weaker r (λ e. FailsToQuery rows_text [] old new e ⊎ IsTooLate rows_text [] old new e) (HasReason old new) by_sort fails
+  where
+    s : Schema
+    s = old.now.schema
+
+    by_sort : (e : Error) → FailsToQuery rows_text [] old new e ⊎ IsTooLate rows_text [] old new e → HasReason old new e
+    by_sort e (inl fails) =
+        reason_over s has.place meta (table meta s has) (stands meta s has) refl rows_text [] rows_terms [] (lit (Int (pos 2))) (codes "id" ∷ codes "number" ∷ codes "register" ∷ []) (rows_here old.now has) [] rows_suits old new refl e fails
+    -- a query writes nothing, for which it could be too late
+    by_sort e (inr late) = absurd (true≢false (sym (subst IsSome (subst IsPlain late.1.is (rows_here old.now has).plain).0 late.2)))
 
 pub rows_found : (db : Database) (r : Result (Vec Row Global) Error) → IfOk r (λ rows. Selects [] rows_terms [] (Some 2) (rows_of db meta) [] rows.items) → IfOk r (λ rows. FindsTwo (rows_of db meta) rows.items)
 rows_found db r h = answered r (λ answer s. shows_some [] rows_terms [] (rows_of db meta) IsAnyRow (λ r there p. tt) (λ r there fits. refl) 2 answer s) h

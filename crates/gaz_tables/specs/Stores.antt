@@ -82,9 +82,9 @@ module _ {S : Type 0} (g : Ghosts S) (before after : Held S) where
   abbrev pub Stays : Result (Vec Row Global) Error → Type 0
   Stays result = HasCleanDisk new → HasTables old.now → OnOk result (IsUnchanged old new)
 
-  -- a query that fails does so for want of memory, or for the disk, or because the connection was
-  -- shut or its steps are limited
-  abbrev pub FailsByOthers : Result (Vec Row Global) Error → Type 0
+  -- what fails does so for want of memory, or for the disk, or because the connection was shut or
+  -- its steps are limited
+  abbrev pub FailsByOthers : {A : Type 0} → Result A Error → Type 0
   FailsByOthers result = HasCleanDisk new → HasTables old.now → IfErr result (HasReason old new)
 
   -- a stop may leave what it could before and nothing else

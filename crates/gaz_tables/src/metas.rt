@@ -4,8 +4,8 @@ ghost use Rattle.sqlite.specs.Held.{state};
 ghost use Rattle.sqlite.specs.State.{Survives};
 ghost use Rattle.gaz_tables.specs.Metas.{AddsMeta, FindsTwo, Rewrites, rows_text};
 ghost use Rattle.gaz_tables.specs.Schema.{meta};
-ghost use Rattle.gaz_tables.specs.Stores.{Answers, Finds, KeepsInside, SparesInside, Stays};
-ghost use Rattle.gaz_tables.specs.Stores.{StaysInside, WasOpen, WritesInside};
+ghost use Rattle.gaz_tables.specs.Stores.{Answers, FailsByOthers, Finds, KeepsInside, SparesInside};
+ghost use Rattle.gaz_tables.specs.Stores.{Stays, StaysInside, WasOpen, WritesInside};
 
 use sqlite::{Alter, Error, Row, Transaction, params};
 
@@ -16,6 +16,7 @@ pub fn rows<S: Alter>(tx: &mut Transaction<'_, S>) -> Result<Vec<Row>, Error>
     ensures found { Finds S.Store tx.old.conn.now tx.new.conn.now meta result FindsTwo }
     ensures stays { Stays S.Store tx.old.conn.now tx.new.conn.now result }
     ensures open { WasOpen S.Store tx.old.conn.now tx.new.conn.now result }
+    ensures reason { FailsByOthers S.Store tx.old.conn.now tx.new.conn.now result }
     ensures kept { KeepsInside S.Store tx.old.conn.now tx.new.conn.now }
     ensures leaves { Survives (state S.Store tx.old.conn.now) (state S.Store tx.new.conn.now)
         (λ _. ⊥) }

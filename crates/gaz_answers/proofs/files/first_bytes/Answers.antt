@@ -7,8 +7,8 @@ use Rattle.sqlite.specs.declared.error.Error.{Error}
 use Rattle.sqlite.specs.declared.error.Error.TheVariants.{SqliteFailure}
 use Rattle.sqlite.specs.declared.error.ErrorCode.TheVariants.{OutOfMemory}
 use Rattle.sqlite_rules.proofs.ListLemmas.{has_got}
-use Rattle.gaz_row_items.specs.declared.decoding.RowFault.{RowFault}
-use Rattle.gaz_row_items.specs.declared.decoding.RowFault.TheVariants.{Memory}
+use Rattle.gaz_row_items.specs.declared.fault.RowFault.{RowFault}
+use Rattle.gaz_row_items.specs.declared.fault.RowFault.TheVariants.{Memory}
 use Rattle.gaz_answers.specs.Answers.{SaysBytes, ShowsBytes}
 use Rattle.gaz_answers.proofs.files.first_bytes.Goals as goal
 

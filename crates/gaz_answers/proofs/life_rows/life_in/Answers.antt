@@ -1,5 +1,5 @@
 use Rattle.std.proofs.Common.{◌≡◌, rules}
-use Rattle.gaz_row_items.specs.declared.decoding.RowFault.TheVariants.{Memory}
+use Rattle.gaz_row_items.specs.declared.fault.RowFault.TheVariants.{Memory}
 use Rattle.gaz_answers.proofs.VersionRows.{item_row}
 use Rattle.gaz_answers.proofs.life_rows.life_in.Goals as goal
 
@@ -8,7 +8,8 @@ returns-in_err-place-clause-told c = λ shows. absurd (c.in_err-place.ensures.to
 
 pub returns-in_err-code-clause-told : goal.returns-in_err-code-clause-told
 returns-in_err-code-clause-told c = λ shows.
-    absurd (c.in_err-code.ensures.told (record { code = (item_row c.args.row.now shows).cust; first = shows.0.first; last = shows.0.last }))
+    let row = item_row c.args.row.now shows in
+    absurd (c.in_err-code.ensures.told (record { code = row.cust; first = row.custodian.0; last = row.custodian.1 }))
 
 pub returns-in_err-born-clause-told : goal.returns-in_err-born-clause-told
 returns-in_err-born-clause-told c = λ shows. absurd (c.in_err-born.ensures.told (item_row c.args.row.now shows).born)

@@ -4,7 +4,7 @@ use Rattle.gaz_records.specs.Items.{is_entry}
 use Rattle.gaz_answers.specs.Lives.{SayLives, ShowsVersion}
 use Rattle.gaz_answers.proofs.LifeRows.{all_next, passed_next, said_next}
 use Rattle.gaz_answers.proofs.life_rows.lives_in.Goals.{then-branch+in_ok-life+else-is_err, else-branch}
-use Rattle.gaz_row_items.specs.declared.decoding.RowFault.TheVariants.{Memory}
+use Rattle.gaz_row_items.specs.declared.fault.RowFault.TheVariants.{Memory}
 use Rattle.gaz_row_items.proofs.Told.{each_at}
 use Rattle.gaz_answers.proofs.VersionRows.{has_body, has_kind}
 use Rattle.gaz_answers.proofs.life_rows.lives_in.Goals as goal

@@ -1,6 +1,6 @@
 use Rattle.std.proofs.Common.{◌≡◌, rules}
 use Rattle.gaz_row_items.specs.Decoding.{ShowsItem}
-use Rattle.gaz_row_items.specs.declared.decoding.RowFault.TheVariants.{Memory}
+use Rattle.gaz_row_items.specs.declared.fault.RowFault.TheVariants.{Memory}
 use Rattle.gaz_row_items.proofs.Told.{each_at, shown_body}
 use Rattle.gaz_answers.proofs.pages.items_in.Goals as goal
 

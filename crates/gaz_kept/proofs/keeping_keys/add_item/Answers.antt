@@ -17,4 +17,4 @@ returns-clause-added g c =
     let same : values_of code volume c.gone_of-gone.result c.deref-2.result.now ≡ values_of code volume (if row.current then never else volume) row.item = λ i. values_of code volume (c.gone_of-gone.ensures i) (c.deref-2.ensures i) in
     subst (λ adds. WritesVersions g.S.Store c.args.tx.now.conn.now c.add_row.new.tx.conn.now c.add_row.result (AddsItem code volume adds)) (sym c.in-Some.is)
     (writes_as g.S.Store c.args.tx.now.conn.now c.add_row.new.tx.conn.now c.add_row.result (AddsRow (values_of code volume c.gone_of-gone.result c.deref-2.result.now)) (AddsItem code volume (Some row))
-    (λ a b adds. (known, subst (λ v. AddsRow v a b) same adds)) c.add_row.ensures.added)
+    (λ a b adds. (c.code_known.ensures, known, subst (λ v. AddsRow v a b) same adds)) c.add_row.ensures.added)

@@ -1,7 +1,7 @@
 use Rattle.std.proofs.Common.{rules}
 use Rattle.sqlite.specs.Held.{state}
 use Rattle.sqlite.specs.State.{HasCleanDisk}
-use Rattle.gaz_kept.proofs.MetaRows.{answered, found}
+use Rattle.gaz_kept.proofs.MetaRows.{answered, failed, found}
 use Rattle.gaz_kept.proofs.opening.asked.Goals as goal
 
 pub returns-clause-answered : goal.returns-clause-answered
@@ -13,3 +13,8 @@ pub returns-clause-found : goal.returns-clause-found
 returns-clause-found g c clean has =
     let before : HasCleanDisk (state g.S.Store c.rows-found.new.tx.conn.now) = search rules in
     found g.S.Store c.args.conn.now c.transaction-tx.result.conn.now c.rows-found.new.tx.conn.now c.transaction-tx.ensures.begun c.rows-found.result (c.rows-found.ensures.answered before) has
+
+pub returns-clause-reason : goal.returns-clause-reason
+returns-clause-reason g c clean has =
+    let before : HasCleanDisk (state g.S.Store c.rows-found.new.tx.conn.now) = search rules in
+    failed g.S.Store c.args.conn.now c.transaction-tx.result.conn.now c.rows-found.new.tx.conn.now _ c.transaction-tx.ensures.begun c.rows-found.result (c.rows-found.ensures.reason before) (search rules) has

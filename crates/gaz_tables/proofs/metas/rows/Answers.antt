@@ -1,7 +1,7 @@
 use Rattle.std.proofs.Common.{refl}
 use Rattle.sqlite.specs.Held.{state}
 use Rattle.gaz_sql_facts.proofs.Texts.{answers, stays, open_query}
-use Rattle.gaz_tables.proofs.MetaTexts.{rows_here, rows_found}
+use Rattle.gaz_tables.proofs.MetaTexts.{rows_here, rows_found, rows_reason}
 use Rattle.gaz_tables.proofs.Steps.{query_keeps}
 use Rattle.gaz_tables.proofs.metas.rows.Goals as goal
 
@@ -16,6 +16,9 @@ returns-clause-stays g c clean has =
 
 pub returns-clause-open : goal.returns-clause-open
 returns-clause-open g c clean = open_query _ _ (state g.S.Store c.args.tx.now.conn.now) (state g.S.Store c.query_all.new.self.conn.now) c.query_all.result (c.query_all.ensures.ok clean)
+
+pub returns-clause-reason : goal.returns-clause-reason
+returns-clause-reason g c clean has = rows_reason (state g.S.Store c.args.tx.now.conn.now) (state g.S.Store c.query_all.new.self.conn.now) c.query_all.result has.there.metas (c.query_all.ensures.err clean)
 
 pub returns-clause-kept : goal.returns-clause-kept
 returns-clause-kept g c clean inside =

@@ -10,6 +10,6 @@ use Rattle.gaz_calls.proofs.tables.Tables.address_of.Goals as goal
 pub returns : goal.returns
 returns g c =
     asked_read _ _ _ _ c.in_ok-rows.rows c.least_said.result _ _ _ _ _ c.approved_rows.ensures c.in_ok-rows.was c.least_said.ensures.said c.least_said.ensures.told c.read.ensures
-    (λ db kept such found. subst (Each (ShowsItem kind.Lpi)) (sym c.deref.ensures.value) (addresses_shown db c.args.code c.args.uprn c.in_ok-rows.rows.items kept found))
+    (λ db kept found. subst (Each (ShowsItem kind.Lpi)) (sym c.deref.ensures.value) (addresses_shown db c.args.code c.args.uprn c.in_ok-rows.rows.items kept found))
     (λ db kept found address says.
     address_of_told db c.args.code c.args.uprn c.in_ok-rows.rows.items kept found address (subst (λ l. SaysLeast l address) c.deref.ensures.value says))

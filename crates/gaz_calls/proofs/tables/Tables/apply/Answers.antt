@@ -1,3 +1,4 @@
+use Rattle.std.proofs.Common.{refl}
 use Rattle.gaz_views.specs.declared.verdict.Verdict.TheVariants.{Applied}
 use Rattle.gaz_kept.specs.Keeping.{KeepsVolume}
 use Rattle.gaz_kept.proofs.KeepStands.{mark_judges}
@@ -13,7 +14,7 @@ returns g c =
     judged_ok c.args.code Applied (λ v. KeepsVolume c.args.code v c.args.changes.now) (λ db after kept there keeps. mark_judges c.args.code c.args.changes.now db after kept there keeps)
     _ _ c.write.new.self _ c.reached.result c.write.result _ c.in_ok-reached.reached c.in-Some.next next
     c.reached.ensures c.in_ok-reached.was c.write.ensures c.in_ok-write.was
-    c.was_judged.ensures.conn c.was_judged.ensures.failures c.was_judged.ensures.at_hand
+    refl refl c.was_judged.ensures
 
 pub returns-in_err-write : goal.returns-in_err-write
 returns-in_err-write g c =

@@ -1,4 +1,4 @@
-use Rattle.std.proofs.Common.{◌≡◌, ◌∙◌, ap}
+use Rattle.std.proofs.Common.{◌≡◌, ◌∙◌, ap, refl}
 use Rattle.std.specs.Prelude.{⊤, Some}
 use Rattle.gaz_keeper.specs.Received.{count_above}
 use Rattle.gaz_tables.specs.Schema.{received}
@@ -6,7 +6,7 @@ use Rattle.gaz_tables.specs.Tables.{rows_of}
 use Rattle.gaz_kept.specs.Files.{files_in}
 use Rattle.gaz_calls.specs.Asking.{Recalls}
 use Rattle.gaz_calls.specs.Remembered.{IsSo, held_in}
-use Rattle.gaz_calls.specs.declared.at_hand.AtHand.{AtHand}
+use Rattle.gaz_counts.specs.declared.at_hand.AtHand.{AtHand}
 use Rattle.gaz_keeper.proofs.Faults.{passed_on}
 use Rattle.gaz_calls.proofs.Recalling.{if_some_at, recalled, recalls_fault, recalls_more, recalls_noting}
 use Rattle.gaz_calls.proofs.tables.Tables.held.Goals as goal
@@ -23,7 +23,7 @@ returns g c =
     recalls_more _ _ _ c.counts.result c.count_above.result c.in_ok-at_hand.at_hand _ _ _ c.counts.ensures c.in_ok-at_hand.was c.count_above.ensures
     (λ db kept so n is. record { reached = so.reached; held = is ∙ ap (count_above (files_in (rows_of db received)) c.args.code) so.reached }) in
     recalls_noting _ _ _ c.count_above.result c.in_ok-held.held c.args.code counted c.in_ok-held.held _ _ more c.in_ok-held.was (λ db kept so. (so, so.held))
-    c.note.ensures.conn c.note.ensures.failures c.note.ensures.own c.note.ensures.others
+    refl refl c.note.ensures
 
 pub returns-in_err-held : goal.returns-in_err-held
 returns-in_err-held g c =

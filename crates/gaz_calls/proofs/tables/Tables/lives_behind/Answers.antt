@@ -3,7 +3,7 @@ use Rattle.std.proofs.lemmas.Int.{to_z-of_z}
 use mir.Val.{SFits}
 use Rattle.gaz_tables.specs.Schema.{version2}
 use Rattle.gaz_tables.specs.Tables.{rows_of}
-use Rattle.gaz_calls.specs.Asking.{AsksTablesOf, HasCustodians}
+use Rattle.gaz_calls.specs.Asking.{AsksTables}
 use Rattle.gaz_answers.specs.Lives.{GoesOn, TellsPage}
 use Rattle.gaz_keeper.proofs.Faults.{passed_on}
 use Rattle.gaz_calls.proofs.Answered.{asked_fault, asked_step}
@@ -18,7 +18,7 @@ pub pages-preserved : goal.pages-preserved
 pages-preserved g c =
     let last = c.in-Behind.last in
     let fits : SFits w64 last = search rules in
-    subst (λ n. AsksTablesOf HasCustodians c.args.self.now c.lives_step.new.self (Ok (Some n)) (λ db place. GoesOn c.args.after place (rows_of db version2))) (sym (to_z-of_z w64 last fits))
+    subst (λ n. AsksTables c.args.self.now c.lives_step.new.self (Ok (Some n)) (λ db place. GoesOn c.args.after place (rows_of db version2))) (sym (to_z-of_z w64 last fits))
     (asked_step _ _ _ _ c.lives_step.result c.in_ok-page.page (Some last) _ _ _ c.pages.invariant c.lives_step.ensures.asks c.in_ok-page.was
     (λ db kept was tells. goes_further c.args.after c.pages.place (Some last) (rows_of db version2) was
     (subst (TellsPage c.pages.place (rows_of db version2)) c.in-Behind.is tells)))

@@ -9,7 +9,7 @@ use Rattle.gaz_calls.proofs.tables.Tables.newest_until.Goals as goal
 pub returns : goal.returns
 returns g c =
     asked_read _ _ _ _ c.in_ok-rows.rows c.newest_said.result _ _ _ _ _ c.newest_rows_until.ensures c.in_ok-rows.was c.newest_said.ensures.said c.newest_said.ensures.told c.read.ensures
-    (λ db kept such found. let it = newest_until_shown db c.args.code c.args.volume c.args.key.now c.kind_in.result c.deref.result.now c.in_ok-rows.rows.items kept c.id_of.ensures.form c.kind_in.ensures (c.deref.ensures ∙ c.in_ok-name.ensures.id) found in subst (λ l. HasNewest c.args.key.now l) (sym c.deref-2.ensures.value) it)
+    (λ db kept found. let it = newest_until_shown db c.args.code c.args.volume c.args.key.now c.kind_in.result c.deref.result.now c.in_ok-rows.rows.items kept c.id_of.ensures.form c.kind_in.ensures (c.deref.ensures ∙ c.in_ok-name.ensures.id) found in subst (λ l. HasNewest c.args.key.now l) (sym c.deref-2.ensures.value) it)
     (λ db kept found life says.
     newest_until_of db c.args.code c.args.volume c.args.key.now c.kind_in.result c.deref.result.now c.in_ok-rows.rows.items life kept c.id_of.ensures.form c.kind_in.ensures
     (c.deref.ensures ∙ c.in_ok-name.ensures.id) found

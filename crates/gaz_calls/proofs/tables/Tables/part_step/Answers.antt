@@ -11,7 +11,7 @@ use Rattle.gaz_calls.proofs.tables.Tables.part_step.Goals as goal
 pub returns : goal.returns
 returns g c =
     asked_read _ _ _ _ c.in_ok-rows.rows c.parts_told.result _ _ _ _ _ c.part_rows.ensures.asks c.in_ok-rows.was c.parts_told.ensures.said c.parts_told.ensures.told c.read.ensures
-    (λ db kept such found. subst (Each (ShowsPart c.args.kind)) (sym c.deref.ensures.value) (parts_shown db kept c.args.code c.args.kind c.requires c.args.uprn c.args.start.now 512 c.in_ok-rows.rows.items found))
+    (λ db kept found. subst (Each (ShowsPart c.args.kind)) (sym c.deref.ensures.value) (parts_shown db kept c.args.code c.args.kind c.requires c.args.uprn c.args.start.now 512 c.in_ok-rows.rows.items found))
     (λ db kept found step tells.
     parts_told db kept c.args.code c.args.kind c.requires c.args.uprn c.part_rows.ensures.some (option_map (λ c. c.now) c.args.passed) c.args.start.now 512 c.in_ok-rows.rows.items found step
     (subst (λ rows. IsStepOf 512 rows (names_left c.args.kind (option_map (λ c. c.now) c.args.passed)) step) c.deref.ensures.value tells))

@@ -12,5 +12,5 @@ use Rattle.gaz_calls.proofs.tables.Tables.received.Goals as goal
 pub returns : goal.returns
 returns g c =
     asked_read _ _ _ _ c.in_ok-rows.rows c.first_bytes.result _ _ _ _ _ c.file_rows.ensures c.in_ok-rows.was c.first_bytes.ensures.said c.first_bytes.ensures.told c.read.ensures
-    (λ db kept such found. subst (Each ShowsBytes) (sym c.deref.ensures.value) (bytes_shown c.args.code c.args.volume db c.in_ok-rows.rows.items kept found))
+    (λ db kept found. subst (Each ShowsBytes) (sym c.deref.ensures.value) (bytes_shown c.args.code c.args.volume db c.in_ok-rows.rows.items kept found))
     (λ db kept found bytes says. bytes_told c.args.code c.args.volume (rows_of db received) c.in_ok-rows.rows.items (are_files db kept) found bytes (subst (λ rows. SaysBytes rows bytes) c.deref.ensures.value says))

@@ -1,4 +1,4 @@
-use Rattle.std.proofs.Common.{◌≡◌, ◌∙◌, ◌≤◌, ap, arith, pos, w64}
+use Rattle.std.proofs.Common.{◌≡◌, ◌∙◌, ◌≤◌, ap, arith, pos, w64, refl}
 use Rattle.std.proofs.Math.Facts.{to_z-of_z}
 use mir.Val.{to_z, of_z}
 use Rattle.gaz_keeper.proofs.Faults.{passed_on}
@@ -16,7 +16,7 @@ returns g c =
     judged_ok c.args.code (Rejected c.args.place c.args.rule) (λ v. RejectsAt c.args.code v c.args.place c.args.rule) (skip_judges c.args.code c.args.place c.args.rule small)
     _ _ c.reject.new.self _ c.reached.result c.reject.result _ c.in_ok-reached.reached c.in-Some.next next
     c.reached.ensures c.in_ok-reached.was (rw (c.number.ensures.value, c.number-2.ensures.value, place) at c.reject.ensures) c.in_ok-reject.was
-    c.was_judged.ensures.conn c.was_judged.ensures.failures c.was_judged.ensures.at_hand
+    refl refl c.was_judged.ensures
 
 pub returns-in_err-reject : goal.returns-in_err-reject
 returns-in_err-reject g c =

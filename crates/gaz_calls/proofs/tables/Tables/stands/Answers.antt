@@ -5,7 +5,7 @@ use Rattle.gaz_tables.specs.Tables.{rows_of}
 use Rattle.gaz_row_items.specs.Newest.{SaysStood, TellsStood, stood_by}
 use Rattle.gaz_row_items.specs.Versions.{histories_in}
 use Rattle.gaz_kept.specs.LastViews.{last_in}
-use Rattle.gaz_calls.proofs.Answered.{asked_read, told_always}
+use Rattle.gaz_calls.proofs.Answered.{asked_read}
 use Rattle.gaz_calls.proofs.Passed.{stood_told}
 use Rattle.gaz_kept.proofs.KeysTold.{stood_of_rows}
 use Rattle.gaz_answers.proofs.ShownVersions.{stood_shown}
@@ -15,8 +15,8 @@ use Rattle.gaz_calls.proofs.tables.Tables.stands.Goals as goal
 
 pub returns : goal.returns
 returns g c =
-    asked_read _ _ _ _ c.in_ok-rows.rows c.stood_said.result _ _ _ _ _ c.newest_rows.ensures c.in_ok-rows.was c.stood_said.ensures.said (told_always _ _ c.stood_said.ensures.told) c.read.ensures
-    (λ db kept such found. subst HasStood (sym c.deref-2.ensures.value) (stood_shown db c.args.code (number_of c.kind_in.result) c.deref.result.now c.in_ok-rows.rows.items kept found))
+    asked_read _ _ _ _ c.in_ok-rows.rows c.stood_said.result _ _ _ _ _ c.newest_rows.ensures c.in_ok-rows.was c.stood_said.ensures.said c.stood_said.ensures.told c.read_plain.ensures
+    (λ db kept found. subst HasStood (sym c.deref-2.ensures.value) (stood_shown db c.args.code (number_of c.kind_in.result) c.deref.result.now c.in_ok-rows.rows.items kept found))
     (λ db kept found stood says.
     let rows = histories_in (rows_of db version2) c.args.code in
     let last = last_in db c.args.code in

@@ -18,7 +18,7 @@ returns-then-volume-gt-LAST_VOLUME g c =
 pub returns : goal.returns
 returns g c =
     asked_read _ _ _ _ c.in_ok-rows.rows c.volumes_in.result _ _ _ _ _ c.rows_above.ensures c.in_ok-rows.was c.volumes_in.ensures.said c.volumes_in.ensures.told c.read.ensures
-    (λ db kept such found. subst (Each ShowsVolume) (sym c.deref.ensures.value) (volumes_shown c.args.code c.args.volume db c.in_ok-rows.rows.items kept 512 found))
+    (λ db kept found. subst (Each ShowsVolume) (sym c.deref.ensures.value) (volumes_shown c.args.code c.args.volume db c.in_ok-rows.rows.items kept 512 found))
     (λ db kept found volumes say.
     volumes_told c.args.code c.args.volume (rows_of db received) c.in_ok-rows.rows.items (are_files db kept) found volumes.items
     (subst (λ rows. SayVolumes rows volumes.items) c.deref.ensures.value say))

@@ -1,18 +1,18 @@
-//! What a store has at hand of a custodian.
+//! What is at hand of one custodian.
 ghost use Rattle.std.specs.Prelude.{IfSome};
-ghost use Rattle.gaz_calls.specs.Remembered.{OneJudged, OneMore};
+ghost use Rattle.gaz_counts.specs.Counts.{OneJudged, OneMore};
 
 /// How many of a custodian's volumes are judged, and how many of those above them are received.
 #[derive(Clone, Copy, Drop)]
-pub(crate) struct AtHand {
-    pub(crate) reached: u64,
+pub struct AtHand {
+    pub reached: u64,
     /// None until it was asked for.
-    pub(crate) held: Option<u64>,
+    pub held: Option<u64>,
 }
 
 impl AtHand {
     /// Once one more file waits. How many do is to be counted again where no number is left.
-    pub(crate) fn one_more(self) -> AtHand
+    pub fn one_more(self) -> AtHand
         ensures { OneMore self result }
     {
         match self.held {
@@ -29,7 +29,7 @@ impl AtHand {
 
     /// Once one that waited is judged, where a number is left for how many are. How many wait is to
     /// be counted again where none did.
-    pub(crate) fn one_judged(self) -> Option<AtHand>
+    pub fn one_judged(self) -> Option<AtHand>
         ensures { IfSome result (OneJudged self) }
     {
         if self.reached == u64::MAX {
