@@ -26,7 +26,7 @@ class Refusal:
 
 
 REFUSALS = (
-    *(Refusal(f"no table {table}", f"DROP TABLE {table}") for table in ("meta", "received", "version2")),
+    *(Refusal(f"no table {table}", f"DROP TABLE {table}") for table in ("meta", "received", "version", "version2")),
     Refusal("a column is gone", "ALTER TABLE received DROP COLUMN rule"),
     Refusal("a column has another name", "ALTER TABLE version2 RENAME COLUMN live TO alive"),
     Refusal("a table has another name", "ALTER TABLE version2 RENAME TO versions"),

@@ -43,9 +43,8 @@ class Group:
 
 
 def lacking() -> Iterator[str]:
-    """Stores of which a table has another name in place of one of its columns; that of schema 1 may have any."""
-    for table in ("version2", "received", "meta"):
-        columns = COLUMNS[table]
+    """Stores of which a table has another name in place of one of its columns."""
+    for table, columns in COLUMNS.items():
         for other in columns:
             named = ", ".join(f"{it}_" if it == other else it for it in columns)
             yield f"DROP TABLE {table}; CREATE TABLE {table} (note, {named})"
@@ -99,8 +98,6 @@ GROUPS = (
             "",
             "DROP INDEX by_blpu; DROP INDEX by_blpu2; CREATE TABLE note (id)",
             "INSERT INTO version VALUES (1001, 11, 'x', 0, 0, 0, 0, 1, 2, '')",
-            "DROP TABLE version",
-            "DROP TABLE version; CREATE TABLE version (id)",
         ),
     ),
     # No tables, or not all, or not all columns.
@@ -111,9 +108,11 @@ GROUPS = (
         "BadSchema",
         (
             NO_TABLES,
+            "DROP TABLE version",
             "DROP TABLE version2",
             "DROP TABLE received",
             "DROP TABLE meta",
+            "DROP TABLE version; CREATE TABLE version (id)",
             "DROP TABLE meta; CREATE TABLE metas (id, number, register)",
             "DROP TABLE meta; CREATE VIEW meta AS SELECT 1 AS id, 2 AS number, '' AS register",
             *lacking(),

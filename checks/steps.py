@@ -28,6 +28,7 @@ WITHOUT_STEPS = {
     "UPDATE meta SET register = 'x'": "Fault",
     "DROP TABLE received": "BadSchema",
     "DROP TABLE version2": "BadSchema",
+    "DROP TABLE version": "BadSchema",
 }
 
 

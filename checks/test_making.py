@@ -49,7 +49,7 @@ class Making(InAFolder):
         self.assertEqual(["it doesn't hold what it held"], self.faults(writing, TAKEN))
 
     def test_each_column_is_left_out_once(self) -> None:
-        self.assertEqual(20, len(set(lacking())))
+        self.assertEqual(30, len(set(lacking())))
 
     def test_each_kind_of_refusal_is_there(self) -> None:
         self.assertEqual({"", "BadSchema", "Fault", "OtherRegister"}, {it.word for it in GROUPS})

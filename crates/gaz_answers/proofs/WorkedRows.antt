@@ -26,10 +26,12 @@ files_hold = record {
   rejected = record { state = refl; place = refl; rule = refl; states = omega arith; rules = omega arith };
   waits = record { state = refl; place = refl; rule = refl; states = omega arith; rules = omega arith };
   no_state = λ shows. let few : 7 ≤ 2 = shows.states in absurd (omega arith);
+  no_rule = λ shows. let few : 256 ≤ 255 = shows.rules in absurd (omega arith);
   bytes = (codes "sixth", refl);
   text = λ shows. let is = shows.1 in absurd (cc);
   volume = record { volume = 6; said = refl; first = omega arith; last = omega arith };
   no_volume = λ shows. let said = shows.said in let first = shows.first in let none : shows.volume ≡ 0 = cc in absurd (omega (arith, none, first));
+  beyond = λ shows. let said = shows.said in let last = shows.last in let many : shows.volume ≡ 1000000 = cc in absurd (omega (arith, many, last));
 }
 
 -- ---- addresses and parts
@@ -78,6 +80,7 @@ versions_hold = record {
   passage = passage;
   with_a_hop = λ shows. worked_examples_hold.on_tables.with_a_hop shows.version;
   no_custodian = λ shows. let last : 10000 ≤ 9999 = (of_custodian of_nobody shows.version).1 in absurd (omega arith);
+  nowhere = λ shows. let is = shows.rowid in absurd (cc);
   life = (item, refl);
   no_life = λ life. true≢false (sym life.1);
   passed = record {
@@ -87,8 +90,9 @@ versions_hold = record {
   damaged = λ shows. true≢false (sym shows.passage.custody);
   number = (pos 2, refl);
   no_number = λ has. let is = has.1 in absurd (cc);
-  code = record { code = refl; first = omega arith; last = omega arith };
-  no_code = λ has. let last : 10000 ≤ 9999 = has.last in absurd (omega arith);
+  code = (refl, (omega arith, omega arith));
+  no_code = λ has. let last : 10000 ≤ 9999 = has.1.1 in absurd (omega arith);
+  code_0 = λ has. let first : 1 ≤ 0 = has.1.0 in absurd (omega arith);
   small = (refl, omega arith);
   great = λ small. let low : 256 < 256 = small.1 in absurd (omega arith);
   links = record { blpu = refl; street = refl; lang = (refl, omega arith); live = (refl, omega arith) };

@@ -8,7 +8,6 @@ use Rattle.sqlite.specs.Edit.{id_in}
 use Rattle.sqlite.specs.Order.{Row, column}
 use Rattle.sqlite_rules.specs.Lists.{Has}
 use Rattle.sqlite_trees.specs.Tree.{IsAscending}
-use Rattle.gaz_ids.specs.Limits.{last_code}
 use Rattle.gaz_records.specs.Items.{is_entry}
 use Rattle.gaz_records.specs.declared.item.Item.{Item}
 use Rattle.gaz_cells.specs.Custody.{custody_kind}
@@ -18,7 +17,7 @@ use Rattle.gaz_tables.specs.Shows.{IsAnyRow}
 use Rattle.gaz_tables.specs.Versions.{blpu_of, born_of, cust_of, gone_of, kind_of, lang_of}
 use Rattle.gaz_tables.specs.Versions.{live_of, street_of}
 use Rattle.gaz_row_items.specs.Versions.{IsWhole, history_in, item_in, number_in}
-use Rattle.gaz_kept.specs.Kept.{IsVersion}
+use Rattle.gaz_kept.specs.Kept.{IsCode, IsVersion}
 use Rattle.gaz_loaded.specs.Telling.{told}
 use Rattle.gaz_loaded.specs.declared.listed.Life.{Life}
 use Rattle.gaz_answers.specs.Answers.{most_rows}
@@ -86,10 +85,8 @@ pub record HasLinks (r : Row) : Type 0 where
   pub live : IsSmall (live_of r)
 
 -- a custodian's code stands in the row
-pub record HasCode (r : Row) : Type 0 where
-  pub code : IsWhole (cust_of r)
-  pub first : 1 ≤ number_in (cust_of r)
-  pub last : number_in (cust_of r) ≤ last_code
+abbrev pub HasCode : Row → Type 0
+HasCode r = IsWhole (cust_of r) × IsCode (number_in (cust_of r))
 
 -- ---- what it is of the table
 

@@ -20,18 +20,23 @@ use Rattle.gaz_answers.specs.Volumes.{ShowsVolume}
 
 -- ---- received files
 
--- volume 6 of 1001, in a state that there isn't
+-- volume 6 of 1001, in a state that there isn't, and rejected by a rule of number 256
 abbrev pub in_state_7 : Row
 in_state_7 = judged 7 (pos 0) 0 held_6
+
+abbrev pub by_rule_256 : Row
+by_rule_256 = judged 2 (pos 5) 256 held_6
 
 pub record WorkedFiles : Type 0 where
   pub rejected : ShowsVerdict (verdict_shown rejected_3)
   pub waits : ShowsVerdict (verdict_shown held_6)
   pub no_state : ¬ ShowsVerdict (verdict_shown in_state_7)
+  pub no_rule : ¬ ShowsVerdict (verdict_shown by_rule_256)
   pub bytes : ShowsBytes (file_shown held_6)
   pub text : ¬ ShowsBytes (Text (codes "sixth") ∷ [])
   pub volume : ShowsVolume (volume_shown held_6)
   pub no_volume : ¬ ShowsVolume (Int (pos 0) ∷ [])
+  pub beyond : ¬ ShowsVolume (Int (pos 1000000) ∷ [])
 
 -- ---- addresses and parts
 
@@ -54,10 +59,13 @@ pub record WorkedNamed : Type 0 where
 
 -- ---- rows of `version2`
 
--- street 101 of custodian 10000, whose code is above the last, and the address L3 in a language of
--- number 256
+-- street 101 of custodian 10000, whose code is above the last, and of custodian 0; and the address
+-- L3 in a language of number 256
 abbrev pub of_nobody : Row
 of_nobody = Int (pos 4) ∷ values_of 10000 1 1000000 (street 101)
+
+abbrev pub of_0 : Row
+of_0 = Int (pos 4) ∷ values_of 0 1 1000000 (street 101)
 
 abbrev pub in_lang_256 : Row
 in_lang_256 = take 6 address_row ++ Int (pos 256) ∷ drop 7 address_row
@@ -71,6 +79,7 @@ pub record WorkedVersions : Type 0 where
   pub passage : ShowsVersion taken_row
   pub with_a_hop : ¬ ShowsVersion handed_on
   pub no_custodian : ¬ ShowsVersion of_nobody
+  pub nowhere : ¬ ShowsVersion without_rowid
   pub life : ShowsLife changed_101
   pub no_life : ¬ ShowsLife taken_row
   pub passed : ShowsPassed (listed_shown taken_row)
@@ -79,6 +88,7 @@ pub record WorkedVersions : Type 0 where
   pub no_number : ¬ HasNumber without_rowid 0
   pub code : HasCode of_1002
   pub no_code : ¬ HasCode of_nobody
+  pub code_0 : ¬ HasCode of_0
   pub small : IsSmall (Int (pos 255))
   pub great : ¬ IsSmall (Int (pos 256))
   pub links : HasLinks address_row

@@ -30,7 +30,8 @@ fn verdict_of(state: u64, place: u64, rule: u64) -> Result<Option<Verdict>, Wron
 }
 
 /// The verdict that the first row says, of state, place and rule; none where it waits, or where
-/// there is no row. `WrongRow` where a row says neither that a file waits nor its verdict.
+/// there is no row. Never `WrongRow` where each row says whether a file waits, or its verdict, as in
+/// a store's.
 pub fn verdict_said(rows: &[Row]) -> Result<Option<Verdict>, WrongRow>
     ensures said { IfOk result (SaysVerdict rows.now) }
     ensures told { IsTold (Each ShowsVerdict rows.now) result }

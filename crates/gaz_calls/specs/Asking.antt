@@ -79,8 +79,12 @@ pub record Fails {S : Type 0} {store : Ghosts S} (old new : Tables S store) (fau
   pub kept : old.failures ≤ new.failures
   pub counted : fault ≡ Store → old.failures < new.failures
 
+-- no error is
+abbrev pub IsNever : {E : Type 0} → E → Type 0
+IsNever e = ⊥
+
 -- what was answered, by the connection or by whoever read its rows, or the fault that its error is:
--- `Memory` where the error is want of memory
+-- `Memory` where the error is of those that are want of memory
 pub record Tells {S : Type 0} {store : Ghosts S} {T E : Type 0} (IsWant : E → Type 0)
     (old new : Tables S store) (answer : Result T E) (result : Result T ShelfFault) : Type 0 where
   pub conn : new.conn ≡ old.conn

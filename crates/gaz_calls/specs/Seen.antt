@@ -33,8 +33,8 @@ pub record IsUnharmed (s : State) : Type 0 where
   pub clean : HasCleanDisk s
   pub is_open : IsTrue s.is_open
 
--- nothing failed meanwhile of what it stands on: the disk didn't, nobody shut the connection, and
--- its steps aren't limited
+-- nothing failed meanwhile of what it stands on: no failure of the disk was counted, and one could
+-- have been, nobody shut the connection, and its steps aren't limited
 pub record IsQuiet (old new : State) : Type 0 where
   pub unharmed : IsUnharmed new
   pub faultless : ¬ MoreFaults old.faults new.faults

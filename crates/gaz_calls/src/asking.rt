@@ -3,7 +3,7 @@ ghost use Rattle.std.specs.Prelude.{◌≡◌, ◌==◌, ◌^◌, ◌-◌, true,
 ghost use Rattle.std.specs.Prelude.{IsTrue, OnOk};
 ghost use Rattle.sqlite.specs.Held.{state};
 ghost use Rattle.sqlite.specs.State.{HasCleanDisk};
-ghost use Rattle.gaz_calls.specs.Asking.{AreReady, AsksTables, Fails, IsAnyway, Tells};
+ghost use Rattle.gaz_calls.specs.Asking.{AreReady, AsksTables, Fails, IsAnyway, IsNever, Tells};
 ghost use Rattle.gaz_kept.specs.Opening.{IsSettled};
 
 use crate::tables::Tables;
@@ -100,9 +100,13 @@ impl<S: Alter> Tables<S> {
         }
     }
 
-    /// The same of what was read off rows without taking memory.
-    pub(crate) fn read_plain<T>(&mut self, read: Result<T, WrongRow>) -> Result<T, ShelfFault>
-        ensures { Tells (λ wrong. ⊥) self.old self.new read result }
+    /// What was read off rows without taking memory. A row that can't be read counts as a failure
+    /// here too.
+    pub(crate) fn read_without_memory<T>(
+        &mut self,
+        read: Result<T, WrongRow>,
+    ) -> Result<T, ShelfFault>
+        ensures { Tells IsNever self.old self.new read result }
     {
         match read {
             Ok(found) => Ok(found),

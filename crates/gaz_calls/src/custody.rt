@@ -57,7 +57,7 @@ impl<S: Alter> Tables<S> {
     {
         let name = id_of(self.alloc, &Key::Blpu(uprn))?;
         let rows = self.custody_rows(code, &name)?;
-        self.read_plain(passage_said(&rows))
+        self.read_without_memory(passage_said(&rows))
     }
 
     // The newest that was born in a volume or before.
@@ -73,7 +73,7 @@ impl<S: Alter> Tables<S> {
     {
         let name = id_of(self.alloc, &Key::Blpu(uprn))?;
         let rows = self.custody_rows_until(code, volume, &name)?;
-        self.read_plain(passage_said(&rows))
+        self.read_without_memory(passage_said(&rows))
     }
 
     /// What last became of a number in a custodian's last view.

@@ -42,7 +42,7 @@ impl<S: Alter> Tables<S> {
             (λ db v. v ≡ verdict_on (board_of db) code volume) }
     {
         let rows = self.verdict_rows(code, volume)?;
-        self.read_plain(verdict_said(&rows))
+        self.read_without_memory(verdict_said(&rows))
     }
 
     /// The bytes of a volume with its state, place and rule, where it was received.

@@ -153,7 +153,7 @@ impl<S: Alter> Tables<S> {
     {
         let name = id_of(self.alloc, key)?;
         let rows = self.newest_rows(code, kind_in(key), &name)?;
-        self.read_plain(stood_said(&rows))
+        self.read_without_memory(stood_said(&rows))
     }
 
     /// The item at a key after a volume, which is to be reached; after volume 0 there is none.

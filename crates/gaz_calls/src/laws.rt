@@ -3,7 +3,7 @@ ghost use Rattle.gaz_calls.specs.WorkedAsking.{WorkedAsking};
 ghost use Rattle.gaz_calls.specs.WorkedGrowing.{WorkedGrowing};
 ghost use Rattle.gaz_calls.specs.WorkedPassing.{WorkedPassing};
 
-/// Why a call that asks the tables fails, on worked examples.
+/// Why a call that asks the tables fails, and what is at hand, on worked examples.
 pub fn worked_asking()
     ensures { WorkedAsking }
 {}

@@ -38,7 +38,7 @@ pub fn cells_say_entries()
     ensures { CellsSayEntries }
 {}
 
-/// The names of some keys.
+/// The names of some keys, and which numbers an item is looked for by.
 pub fn worked_ids()
     ensures { WorkedIds }
 {}

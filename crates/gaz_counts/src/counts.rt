@@ -34,10 +34,7 @@ impl Counts {
     pub fn note(&mut self, code: Code, at_hand: AtHand)
         ensures { Notes code at_hand self.old self.new }
     {
-        match self.by_code.insert(code, at_hand) {
-            Ok(_) => {}
-            Err(_) => self.by_code.clear(),
-        }
+        let _ = self.by_code.insert(code, at_hand);
     }
 
     /// One more file of the custodian waits.

@@ -1,5 +1,11 @@
 -- What the end rules come to on worked examples.
-use Rattle.gaz_end_rules.specs.EndExamples.{WorkedBases, WorkedEndRules, WorkedLacking, WorkedLeaving, WorkedNames, WorkedPast, WorkedRings, WorkedSecond, WorkedStreets}
+use Rattle.std.proofs.Common.{◌≡◌, ◌∙◌, ◌||◌, false, true, [], ap, subst, sym}
+use Rattle.std.specs.Prelude.{None, Some}
+use Rattle.gaz_end_rules.specs.EndExamples.{home}
+use Rattle.gaz_end_rules.specs.EndRules.{same_key}
+use Rattle.gaz_end_rules.proofs.Booleans.{by_test}
+use Rattle.gaz_end_rules.proofs.Keys.{key_itself, key_tied}
+use Rattle.gaz_end_rules.specs.EndExamples.{WorkedBases, WorkedEndRules, WorkedLacking, WorkedLeaving, WorkedNames, WorkedPassed, WorkedPast, WorkedRings, WorkedSecond, WorkedStreets, l1, rests, two_approved}
 use Rattle.gaz_end_rules.proofs.Worked.{views}
 
 on_second : WorkedSecond
@@ -86,6 +92,18 @@ on_bases = record {
   other_way_round = simp views;
 }
 
+on_passed : WorkedPassed
+on_passed = record {
+  none_yet = λ k has. absurd (let clash : false ≡ true = has in cc);
+  address = λ k has. by_test (same_key k l1)
+      (λ same. subst (λ x. rests home [] x ≡ None) (sym (key_tied k l1 same)) on_second.alone)
+      (λ other. absurd (let clash : false ≡ true = sym (ap (λ b. b || false) other) ∙ has in cc));
+  broken = λ passed.
+      let none : rests two_approved [] l1 ≡ None = passed l1 (ap (λ b. b || false) (key_itself l1)) in
+      let clash : None ≡ Some 30 = sym none ∙ on_second.of_the_first in
+      absurd (cc);
+}
+
 pub on_end_rules : WorkedEndRules
 on_end_rules = record {
   on_second = on_second;
@@ -96,4 +114,5 @@ on_end_rules = record {
   on_names = on_names;
   on_past = on_past;
   on_bases = on_bases;
+  on_passed = on_passed;
 }

@@ -12,6 +12,8 @@ use Rattle.gaz_views.specs.Examples.{blpu, council_tax, lpi, name, spring, stree
 use Rattle.gaz_views.specs.View.{View, empty_view, with_item}
 use Rattle.gaz_changefile.specs.Rules.{first_broken}
 use Rattle.gaz_end_rules.specs.EndRules.{end_rules}
+use Rattle.gaz_end_rules.specs.Knowing.{HavePassed}
+use Rattle.gaz_end_rules.specs.declared.passed.Passed.{Passed}
 
 -- the view after these items came
 abbrev pub view_of : List Item → View
@@ -179,6 +181,19 @@ pub record WorkedBases : Type 0 where
   pub other_way_round : rests away
       (of_custodian 1003 open_there ∷ of_custodian 1002 closed_there ∷ []) l1 ≡ None
 
+-- ---- keys that passed
+
+abbrev pub passed_of : List Key → Passed
+passed_of keys = record { keys = record { keys = keys } }
+
+abbrev pub two_approved : List Item
+two_approved = home ++ address (codes "L2") Approved ∷ []
+
+pub record WorkedPassed : Type 0 where
+  pub none_yet : HavePassed (view_of two_approved) [] (passed_of [])
+  pub address : HavePassed (view_of home) [] (passed_of (l1 ∷ []))
+  pub broken : ¬ HavePassed (view_of two_approved) [] (passed_of (l1 ∷ []))
+
 pub record WorkedEndRules : Type 0 where
   pub on_second : WorkedSecond
   pub on_lacking : WorkedLacking
@@ -188,3 +203,4 @@ pub record WorkedEndRules : Type 0 where
   pub on_names : WorkedNames
   pub on_past : WorkedPast
   pub on_bases : WorkedBases
+  pub on_passed : WorkedPassed

@@ -14,8 +14,8 @@ use Rattle.gaz_views.specs.declared.verdict.Verdict.TheVariants.{Applied, Reject
 
 -- ---- what is kept
 
--- the files, the board, and the view that the judgement in progress has made so far, which is the
--- empty one while none is
+-- the files, the board, and the view that the judgement in progress has made so far; while none is
+-- a keeper is to show the empty one, which no clause asks of it
 pub record Content : Type 0 where
   pub files : Received
   pub board : Board

@@ -1,6 +1,6 @@
 -- What the definitions come to on worked examples.
-use Rattle.std.proofs.Common.{◌≡◌, ◌∙◌, ◌≤◌, ◌<◌, ◌+◌, ◌⊎◌, ℕ, suc, pos, true, List, [], ◌∷◌, inl, inr, refl, sym, ap, subst, arith, slice_get}
-use Rattle.std.specs.Prelude.{IsSomeAnd, length, map, slice_index_or, unwrap_or}
+use Rattle.std.proofs.Common.{◌≡◌, ◌∙◌, ◌≤◌, ◌<◌, ◌+◌, ◌⊎◌, ◌&&◌, not, ℕ, suc, pos, true, List, [], ◌∷◌, inl, inr, refl, sym, ap, subst, arith, slice_get}
+use Rattle.std.specs.Prelude.{◌==◌, IsSomeAnd, count_by, length, map, nat_le, slice_index_or, unwrap_or}
 use Rattle.std.specs.Cmp.{IsTotalOrder, nat_cmp_total}
 use Rattle.std.specs.FinMap as finite
 use Rattle.std.specs.FinMap.{find, put}
@@ -69,6 +69,7 @@ files_hold = record {
   not_there = file_at (1001, 5);
   verdicts = verdicts_are;
   reached = ap length verdicts_are;
+  waits = ap (λ (es : List ((ℕ × ℕ) × List ℕ)). count_by {X = ℕ × ℕ} (λ p. (p.0 == 1001) && not (nat_le p.1 4)) (map (λ e. e.0) es)) (entries_of pair_cmp pairs_total (map file_in six_files));
   of_1002 = ap (map (λ e. e.1)) judged_1002;
   of_nobody = ap (map (λ e. e.1)) judged_1003;
 }

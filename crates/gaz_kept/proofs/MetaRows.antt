@@ -25,7 +25,7 @@ use Rattle.sqlite_trees.specs.declared.store.Store.{Ghosts}
 use Rattle.gaz_tables.specs.Metas.{FindsTwo, meta_row, meta_shown, rows_text}
 use Rattle.gaz_tables.specs.Schema.{meta, received, version, version2}
 use Rattle.gaz_tables.specs.Stores.{HasTables}
-use Rattle.gaz_tables.specs.Tables.{AreThere, HasTable, rows_of}
+use Rattle.gaz_tables.specs.Tables.{AreThere, HasTable, IsListed, rows_of}
 use Rattle.gaz_kept.specs.Numbered.{HasMeta, IsAnswer, IsJudged, IsNumbered, IsOne, IsTold}
 use Rattle.gaz_kept.specs.Opening.{CreateOpens, has_all, has_any, has_name, is_like, schema_number}
 use Rattle.gaz_kept.specs.OpeningFirst.{has_first}
@@ -46,10 +46,16 @@ pub has_meta : (schema : Schema) → HasTable meta schema → list_any (is_like 
 unfolding same_name
 has_meta schema has = some_from (is_like meta) schema.tables (table meta schema has) (listed meta schema has) refl
 
+-- so has one that is listed
+has_version : (schema : Schema) → IsListed version schema → list_any (is_like version) schema.tables ≡ true
+unfolding same_name
+has_version schema is =
+    some_from (is_like version) schema.tables is.table is.there (ap (λ (t : Table). is_like version t) (λ i. record is.table { name = is.name i; columns = is.columns i }))
+
 -- so where a store's tables are there, nothing is missing
 pub all_found : (schema : Schema) → AreThere schema → has_all schema ≡ true
 unfolding has_all
-all_found schema has = and_from _ _ (has_version2 schema has.versions) (and_from _ _ (has_received schema has.receiveds) (has_meta schema has.metas))
+all_found schema has = and_from _ _ (has_version schema has.firsts) (and_from _ _ (has_version2 schema has.versions) (and_from _ _ (has_received schema has.receiveds) (has_meta schema has.metas)))
 
 pub nothing_lacks : (schema : Schema) → AreThere schema → false ≡ has_all schema → ⊥
 nothing_lacks schema has lacks = let e : ◌≡◌ {A = Bool} false true = lacks ∙ all_found schema has in absurd (cc)
@@ -63,7 +69,7 @@ any_found schema has = or_right _ _ (or_left _ _ (or_left _ _ (some_from (λ t. 
 pub not_both : (schema : Schema) → has_all schema ≡ true → has_first schema ≡ true → ⊥
 unfolding has_all has_first
 not_both schema all first =
-    let second = and_parts _ _ all in
+    let second = and_parts _ _ (and_parts _ _ all).1 in
     let t = some_has (is_like version2) schema.tables second.0 in
     let named = some_from (λ u. same_name u.name (codes "version2")) schema.tables t.0 t.1 (and_parts _ _ t.2).0 in
     let there : has_name (codes "version2") schema ≡ true = or_left _ _ named in

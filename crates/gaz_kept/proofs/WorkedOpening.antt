@@ -19,6 +19,7 @@ schemas_hold = record {
   first_is_taken = refl;
   first_is_no_store = refl;
   not_without_meta = refl;
+  not_without_version = refl;
   other_case = refl;
   no_columns = refl;
   column_in_other_case = refl;

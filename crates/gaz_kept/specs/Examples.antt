@@ -7,6 +7,7 @@ use Rattle.gaz_records.specs.declared.key.Key.TheVariants as key
 use Rattle.gaz_views.specs.Examples.{street}
 use Rattle.gaz_views.specs.declared.verdict.Verdict.TheVariants.{Applied, Rejected}
 use Rattle.gaz_keeper.specs.Board.{Board, reached, verdict_on, view_after}
+use Rattle.gaz_keeper.specs.Received.{count_above}
 use Rattle.gaz_tables.specs.Receiveds.{judged, unjudged}
 use Rattle.gaz_row_items.specs.Examples.{changed, changed_101, four_rows}
 use Rattle.gaz_row_items.specs.Versions.{histories_in, values_of, view_in}
@@ -45,6 +46,7 @@ pub record WorkedFiles : Type 0 where
   pub not_there : map.get (files_in six_files) (1001, 5) ≡ None
   pub verdicts : verdicts_in six_files 1001 ≡ Applied ∷ Applied ∷ Rejected 5 21 ∷ Applied ∷ []
   pub reached : reached_in six_files 1001 ≡ 4
+  pub waits : count_above (files_in six_files) 1001 4 ≡ 1
   pub of_1002 : verdicts_in six_files 1002 ≡ Applied ∷ []
   pub of_nobody : verdicts_in six_files 1003 ≡ []
 

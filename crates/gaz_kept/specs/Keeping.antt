@@ -48,7 +48,8 @@ ClosesRow c volume k None old new = new ≡ old
 ClosesRow c volume k (Some born) old new =
     Closes c (number_of (kind_in k)) (id_of k) born volume old new
 
--- an item's row is born in this volume, and gone with it unless it is current
+-- an item's row, of a custodian's code, is born in this volume, and gone with it unless it is
+-- current
 abbrev pub AddsItem : ℕ → ℕ → Option NewRow → List Row → List Row → Type 0
 AddsItem c volume None old new = new ≡ old
 AddsItem c volume (Some r) old new = IsCode c × (is_item r.item ≡ true)
@@ -73,7 +74,7 @@ EndsRow c volume uprn None old new = new ≡ old
 EndsRow c volume uprn (Some born) old new =
     Closes c custody_kind (id_of (key.Blpu uprn)) born volume old new
 
--- what became of a number is born in this volume, and current
+-- what became of a custodian's number is born in this volume, and current
 pub record AddsPassage (c volume uprn : ℕ) (custody : Custody) (old new : List Row)
     : Type 0 where
   pub custodian : IsCode c

@@ -13,7 +13,7 @@ use Rattle.sqlite_schema.specs.Names.{same_name}
 use Rattle.sqlite_trees.specs.declared.store.Store.{Ghosts}
 use Rattle.gaz_sql_facts.specs.Reasons.{IsHindered}
 use Rattle.gaz_tables.specs.Creating.{HasRoom, IsNewStore}
-use Rattle.gaz_tables.specs.Schema.{meta, received, version2}
+use Rattle.gaz_tables.specs.Schema.{meta, received, version, version2}
 use Rattle.gaz_tables.specs.Stores.{HasTables}
 use Rattle.gaz_tables.specs.Tables.{rows_of}
 use Rattle.gaz_kept.specs.Numbered as numbered
@@ -50,11 +50,12 @@ abbrev pub is_like : Table → Table → Bool
 is_like like t =
     same_name t.name like.name && list_all (has_column t) (map (λ c. c.name) like.columns)
 
--- each table of a store is there and is understood, with its columns
+-- each table of a store is there and is understood, with its columns, and so is `version`
 unfoldable pub has_all : Schema → Bool
 has_all schema =
-    list_any (is_like version2) schema.tables
-    && (list_any (is_like received) schema.tables && list_any (is_like meta) schema.tables)
+    list_any (is_like version) schema.tables
+    && (list_any (is_like version2) schema.tables
+    && (list_any (is_like received) schema.tables && list_any (is_like meta) schema.tables))
 
 -- ---- the row of `meta`
 
@@ -109,7 +110,7 @@ TellsWhether g before after register result =
     HasCleanDisk (state g after) → HasTables (state g before).now
     → IfOk result (λ own. IsTrue own ↔ IsOf register (rows_of (state g before).now meta))
 
--- it isn't told of a store's tables for want of memory alone, or because what was asked was hindered
+-- where it isn't told of a store's tables, memory was lacking, or what was asked was hindered
 abbrev pub UnreadByOthers : {S : Type 0} → Ghosts S → Held S → Held S → Result Bool Unread → Type 0
 UnreadByOthers g before after result =
     HasCleanDisk (state g after) → HasTables (state g before).now

@@ -21,6 +21,10 @@ schema_of_another = record { tables = meta_of_another ∷ []; indexes = []; view
 abbrev pub without_meta : Schema
 without_meta = record store_schema { tables = version ∷ received ∷ version2 ∷ [] }
 
+-- and without `version`, which stays of schema 1
+abbrev pub without_version : Schema
+without_version = record store_schema { tables = received ∷ meta ∷ version2 ∷ [] }
+
 pub record WorkedSchemas : Type 0 where
   pub empty_is_free : has_any no_schema ≡ false
   pub empty_is_no_store : has_all no_schema ≡ false
@@ -29,6 +33,7 @@ pub record WorkedSchemas : Type 0 where
   pub first_is_taken : has_any first_schema ≡ true
   pub first_is_no_store : has_all first_schema ≡ false
   pub not_without_meta : has_all without_meta ≡ false
+  pub not_without_version : has_all without_version ≡ false
   pub other_case : has_any schema_of_another ≡ true
   pub no_columns : is_like meta meta_of_another ≡ false
   pub column_in_other_case : has_column meta (codes "Register") ≡ true

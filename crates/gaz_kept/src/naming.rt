@@ -110,13 +110,13 @@ fn has_meta(tables: &[Table]) -> bool
     tables.iter().any(|t| is_like(t, "meta", &columns))
 }
 
-// Whether each table of a store is there, with its columns.
+// Whether each table of a store is there, with its columns, and so is `version`.
 #[tactic(auto, unfolding(crate::specs::Opening::has_all))]
 pub(crate) fn has_all(schema: &Schema) -> bool
     ensures { result ≡ has_all schema.now }
 {
     let tables = schema.tables.as_slice();
-    has_version2(tables) & (has_received(tables) & has_meta(tables))
+    has_version(tables) & (has_version2(tables) & (has_received(tables) & has_meta(tables)))
 }
 
 // Whether each table of schema 1 is there, with its columns, and nothing is named `version2`.

@@ -6,7 +6,8 @@ use Rattle.sqlite.specs.declared.error.Error.{Error}
 use Rattle.sqlite.specs.declared.error.Error.TheVariants.{SqliteFailure}
 use Rattle.sqlite.specs.declared.error.ErrorCode.TheVariants.{OutOfMemory}
 
--- the disk failed meanwhile, the connection was shut before, or its steps are limited
+-- the disk failed meanwhile, or the count of its failures is at its last value and tells none; the
+-- connection was shut before; or its steps are limited
 abbrev pub IsHindered : State → State → Type 0
 IsHindered old new = MoreFaults old.faults new.faults
     ⊎ ((old.is_open ≡ false) ⊎ IsSome old.step_limit)

@@ -1,12 +1,13 @@
 -- KeyHistories as histories in any order, and keys beside them among which are all of theirs.
-use Rattle.std.proofs.Common.{◌≡◌, ◌&&◌, ◌||◌, ℕ, Bool, true, false, cond, List, [], ◌∷◌, map, take, refl, sym, ap, subst, ◌∙◌, unwrap_or}
-use Rattle.std.specs.Prelude.{Option, Some, None, filter, is_some, option_map}
+use Rattle.std.proofs.Common.{◌≡◌, ◌+◌, ◌&&◌, ◌||◌, ℕ, Bool, true, false, cond, List, [], ◌∷◌, map, take, arith, refl, sym, ap, subst, ◌∙◌, unwrap_or}
+use Rattle.std.specs.Prelude.{Option, Some, None, length, filter, is_some, option_map}
 use Rattle.std.proofs.lemmas.List.Kept.{IsStrictlySortedBy-filter}
+use Rattle.std.proofs.lemmas.Map.{NonePasses, lookup-none}
 use Rattle.std.proofs.lemmas.Map.Views.{any-filter_same}
 use Rattle.std.specs.Bool.{OnTrue}
 use Rattle.std.specs.Cmp.{eq_by_cmp_equiv}
 use Rattle.std.specs.FinMap as finite
-use Rattle.std.specs.List.{AllByRecursion, cons_option, list_any}
+use Rattle.std.specs.List.{AllByRecursion, IsDistinct, cons_option, list_any}
 use Rattle.std.specs.List.Sorted.{IsStrictlySortedBy}
 use Rattle.std.specs.Map.{keys_of, lookup}
 use Rattle.std.specs.Ordering.{eq_by_cmp}
@@ -216,3 +217,18 @@ pub page_stored : (g : KeyHistories) (ks : List Key) (es : Rows) (v : ℕ) (kind
     → take most (map (λ (e : Key × Item). e.1) (filter (λ (e : Key × Item). is_of kind e.0 && comes_after after e.0) (rows_at (with_versions ks es) v))) ≡ page (view_at g v) kind after most
 page_stored g ks es v kind after most is all h =
     ap (λ (l : List (Key × Item)). take most (map (λ e. e.1) (filter (λ e. is_of kind e.0 && comes_after after e.0) l))) (rows_in_order g ks es v is all h)
+
+-- as many keys were used as there are histories, of which no two have the same key
+pub as_many : (es : Rows) → IsDistinct (eq_by_cmp key_cmp) (keys_of es) → length es ≡ finite.len (finite.from_entries {R = key_cmp} es)
+unfolding IsDistinct
+as_many [] apart = sym (finite.len-empty key_cmp ItemVersions)
+as_many (e ∷ es) apart =
+    let rest = finite.from_entries {R = key_cmp} es in
+    let new : finite.contains_key rest e.0 ≡ false = ap is_some (get_tree (λ a b. refl) keys_total es e.0 ∙ lookup-none (eq_by_cmp key_cmp e.0) es (none_among es apart.0)) in
+    let before = as_many es apart.1 in
+    let more = finite.len-insert keys_total rest e.0 e.1 ∙ ap (λ b. cond b (finite.len rest) (finite.len rest + 1)) new in
+    omega (arith, before, more)
+  where
+    none_among : (fs : Rows) → AllByRecursion (λ k. eq_by_cmp key_cmp e.0 k ≡ false) (keys_of fs) → NonePasses (eq_by_cmp key_cmp e.0) fs
+    none_among [] others = tt
+    none_among (f ∷ fs) others = (others.0, none_among fs others.1)

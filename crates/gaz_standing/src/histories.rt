@@ -55,7 +55,9 @@ impl Histories {
     }
 
     /// How many keys were ever used.
-    pub fn len(&self) -> usize {
+    pub fn len(&self) -> usize
+        ensures { result ≡ finite.len self.now }
+    {
         self.by_key.len()
     }
 

@@ -62,8 +62,8 @@ pub fn judgements_stay()
     ensures { JudgementsStay }
 {}
 
-/// Two runs that end settled and with equal received sets leave equal boards, whatever came and in
-/// whatever order.
+/// Two runs that began at partial boards and end settled and with equal received sets leave equal
+/// boards, whatever came and in whatever order.
 pub fn equal_received()
     ensures { EqualReceived }
 {}
@@ -79,8 +79,8 @@ pub fn growth_stands<K: Inbox + Drop>()
     ensures { GrowthStands K.seen }
 {}
 
-/// Under a register that grew whoever was let in is let in, and of files of custodians that were
-/// known before whoever asks is answered the same.
+/// Under a register that grew whoever was let in is let in, and on a partial board whoever asks of
+/// files of custodians that were known before is answered the same.
 pub fn growth_answers()
     ensures { AnswersStay }
 {}
@@ -153,7 +153,7 @@ pub fn chains_grow()
     ensures { ChainsGrow }
 {}
 
-/// Asking one last view after another finds the holder.
+/// On a partial board, asking one last view after another finds the holder.
 pub fn finds_holders()
     ensures { FindsHolders }
 {}

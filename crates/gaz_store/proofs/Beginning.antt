@@ -35,12 +35,13 @@ module _ (new : State) (a : Counts) (so : (files : List Row) → AreSo a files) 
   standing register kept whose = record { tables = record { kept = kept; whose = whose; so = so (rows_of new.now received); lawful = content_lawful new.now kept empty_view lawful_empty }; beside = tt }
 
   pub is_made : (old : State) (register : List ℕ) (f : ℕ) → f ≡ 0
-      → (HasCleanDisk new → IsTrue new.is_open) → (HasCleanDisk new → HasRoom old.now.schema → IsNewStore schema_number register old.now new.now × (new.committed ≡ new.now)) → LeavesTheCommit new
+      → (HasCleanDisk new → IsTrue new.is_open) → (HasCleanDisk new → HasCleanDisk old) → (HasCleanDisk new → HasRoom old.now.schema → IsNewStore schema_number register old.now new.now × (new.committed ≡ new.now)) → LeavesTheCommit new
       → IsMade old new register (seen_beside register new a j f)
-  is_made old register f none opened made certain = subst (λ k. IsMade old new register (seen_beside register new a k f)) (sym idle) (record {
+  is_made old register f none opened trust made certain = subst (λ k. IsMade old new register (seen_beside register new a k f)) (sym idle) (record {
     idle = refl;
     failures = none;
     is_open = opened;
+    trust = trust;
     stands = λ h room. standing register (tables_stand.create schema_number register old.now new.now (made h.clean room).0).kept (create_opens register old.now new.now (made h.clean room).0);
     content = λ h room. (tables_stand.create schema_number register old.now new.now (made h.clean room).0).content;
     leaves = λ h room k l.

@@ -23,6 +23,8 @@ pub record IsMade (old new : State) (register : List ℕ) (now : Seen) : Type 0 
   pub idle : now.progress ≡ Idle
   pub failures : now.failures ≡ 0
   pub is_open : HasCleanDisk new → IsTrue new.is_open
+  -- where the disk is clean in the end, it was before
+  pub trust : HasCleanDisk new → HasCleanDisk old
   pub stands : now.unharmed → HasRoom old.now.schema → now.stands
   pub content : now.unharmed → HasRoom old.now.schema → now.content ≡ empty_content
   pub leaves : now.unharmed → HasRoom old.now.schema → LeavesOnly empty_content now

@@ -1,5 +1,5 @@
 -- The tables of the hub's own schemas stand in them; a database of the four tables is one of a store's.
-use Rattle.std.proofs.Common.{◌≡◌, List, refl, sym, subst}
+use Rattle.std.proofs.Common.{◌≡◌, List, inl, refl, sym, subst}
 use Rattle.sqlite_schema.specs.declared.schema.Table.{Table}
 use Rattle.sqlite_schema.specs.Names.{same_name}
 use Rattle.sqlite.specs.Effect.{Database}
@@ -27,7 +27,7 @@ unfolding same_name
 version2_there = record { table = version2; place = 3; stands = record { named = refl; listed = refl; by_tree = refl; stored = refl }; is_like = likes_itself version2; apart = (refl, (refl, (refl, (refl, tt)))) }
 
 pub all_there : AreThere store_schema
-all_there = record { versions = version2_there; receiveds = received_there; metas = meta_there }
+all_there = record { firsts = record { table = version; there = inl refl; name = refl; columns = refl }; versions = version2_there; receiveds = received_there; metas = meta_there }
 
 version_first : HasTable version first_schema
 unfolding same_name

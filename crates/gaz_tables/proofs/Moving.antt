@@ -31,7 +31,7 @@ use Rattle.gaz_sql_facts.proofs.Typed.{typed, kept_by_cast}
 use Rattle.gaz_tables.proofs.Four.{four_still}
 use Rattle.gaz_tables.proofs.Growing as growing
 use Rattle.gaz_tables.proofs.Rooms.{AreLow, in_second, low_of, second_there, second_tree}
-use Rattle.gaz_tables.proofs.Standing.{apart, changes_table, command_here, listed, reads, rest, stands, table}
+use Rattle.gaz_tables.proofs.Standing.{apart, changes_table, command_here, is_listed, listed, reads, rest, stands, table}
 use Rattle.gaz_tables.proofs.Staying.{other_name, rows_stay, tables_now}
 use Rattle.gaz_tables.specs.Creating.{Gains, second_in}
 use Rattle.gaz_tables.specs.Metas.{Rewrites}
@@ -154,7 +154,7 @@ module _ (old made : Database) (has : HasFirstTables old) (gains : Gains (second
   pub tables_gained : HasFourTables made
   tables_gained = record {
     tables = record {
-      there = record { versions = new_there; receiveds = still_there received has.there.receiveds; metas = still_there meta has.there.metas };
+      there = record { firsts = is_listed version made.schema (still_there version has.there.versions); versions = new_there; receiveds = still_there received has.there.receiveds; metas = still_there meta has.there.metas };
       sound = gains.sound;
       versions_shaped = empty_is_shaped (rows_of made version2) none_yet;
       receiveds_shaped = subst (IsShaped shape.Table) (sym (same_rows received has.there.receiveds)) has.receiveds_shaped;

@@ -12,7 +12,7 @@ use Rattle.sqlite.specs.Schema.{Schema}
 use Rattle.sqlite.specs.Table.{Table}
 use Rattle.gaz_sql_facts.proofs.Grown.{all_free_beside, all_free_still, apart_gained, apart_still, counts_still, gained, spares, stands_gained, stands_still, unreferred_still}
 use Rattle.gaz_sql_facts.proofs.Sound.{low_tree}
-use Rattle.gaz_tables.proofs.Standing.{tree_is}
+use Rattle.gaz_tables.proofs.Standing.{is_listed, tree_is}
 use Rattle.gaz_tables.proofs.Trees.{stands_too, tree_too}
 use Rattle.gaz_tables.specs.Creating.{HasRoom, HasRoomFor, HasRoomForFirst, HasRoomForOthers, HasRoomForSecond, HasRoomForVersions, TakesIndex, TakesTable, first_in, index_put, others_in, second_in, store_in, table_put, versions_in}
 use Rattle.gaz_tables.specs.Schema.{by_blpu, by_street, by_blpu2, by_street2, version, received, meta, version2}
@@ -221,6 +221,7 @@ module _ (s : Schema) (room : HasRoom s) where
 
     pub all_there : AreThere (store_in s)
     all_there = record {
+      firsts = is_listed version (store_in s) old_there;
       versions = second_there (first_in s) room_for_second low;
       receiveds =
           in_second (first_in s) received

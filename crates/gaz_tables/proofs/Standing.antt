@@ -14,7 +14,11 @@ use Rattle.gaz_sql_facts.specs.Meaning.{Means, MeansAnywhere, OnTable, placed}
 use Rattle.gaz_sql_facts.specs.Standing.{IsApart, ReadsAs, StandsAt}
 use Rattle.gaz_sql_facts.proofs.Texts.{IsCommand, is_command}
 use Rattle.gaz_tables.specs.Stores.{ChangesTable}
-use Rattle.gaz_tables.specs.Tables.{HasTable, IsLike, rows_of, tree_named, tree_of}
+use Rattle.gaz_tables.specs.Tables.{HasTable, IsLike, IsListed, rows_of, tree_named, tree_of}
+
+-- a table that stands is listed
+pub is_listed : (like : Table) (schema : Schema) → HasTable like schema → IsListed like schema
+is_listed like schema has = record { table = has.table; there = has_got schema.tables has.place has.table has.stands.listed; name = has.is_like.name; columns = has.is_like.columns }
 
 module _ (like : Table) (schema : Schema) (has : HasTable like schema) where
   pub tree_is : tree_of like schema ≡ has.table.tree

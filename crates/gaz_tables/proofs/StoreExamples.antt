@@ -1,5 +1,6 @@
 -- Which schemas have a store's tables.
-use Rattle.std.proofs.Common.{◌≡◌, ◌∙◌, ℕ, codes, true, false, Option, Some, length, slice_get, arith, refl, sym, ap, subst}
+use Rattle.std.proofs.Common.{◌≡◌, ◌∙◌, ℕ, codes, true, false, [], ◌∷◌, inl, inr, Option, Some, length, slice_get, arith, refl, sym, ap, subst}
+use Rattle.sqlite_rules.specs.Lists.{Has}
 use Rattle.sqlite_schema.specs.declared.schema.Column.{Column}
 use Rattle.sqlite_schema.specs.declared.schema.Schema.{Schema}
 use Rattle.sqlite_schema.specs.declared.schema.Table.{Table}
@@ -8,13 +9,14 @@ use Rattle.sqlite_value.specs.Keys.{joined}
 use Rattle.gaz_sql_facts.specs.Standing.{IsApart}
 use Rattle.gaz_tables.proofs.Four.{all_there}
 use Rattle.gaz_tables.proofs.Standing.{likes_itself, listed}
-use Rattle.gaz_tables.specs.Schema.{meta, received, version2}
+use Rattle.gaz_tables.specs.Schema.{meta, received, version, version2}
 use Rattle.gaz_tables.specs.StoreExamples.{WorkedStores, narrower, of_files, reordered, unindexed, with_reasons, without_rule}
 use Rattle.gaz_tables.specs.Tables.{AreThere, HasTable, IsLike, tree_named, tree_of}
 
 without_indexes : AreThere unindexed
 unfolding same_name
 without_indexes = record {
+  firsts = record { table = version; there = inl refl; name = refl; columns = refl };
   versions = record { table = version2; place = 3; stands = record { named = refl; listed = refl; by_tree = refl; stored = refl }; is_like = likes_itself version2; apart = (refl, (refl, (refl, (refl, tt)))) };
   receiveds = record { table = received; place = 1; stands = record { named = refl; listed = refl; by_tree = refl; stored = refl }; is_like = likes_itself received; apart = (refl, (refl, (refl, (refl, tt)))) };
   metas = record { table = meta; place = 2; stands = record { named = refl; listed = refl; by_tree = refl; stored = refl }; is_like = likes_itself meta; apart = (refl, (refl, (refl, (refl, tt)))) };
@@ -23,6 +25,7 @@ without_indexes = record {
 with_another : AreThere with_reasons
 unfolding same_name
 with_another = record {
+  firsts = record { table = version; there = inr (inl refl); name = refl; columns = refl };
   versions = record { table = version2; place = 4; stands = record { named = refl; listed = refl; by_tree = refl; stored = refl }; is_like = likes_itself version2; apart = (refl, (refl, (refl, (refl, (refl, tt))))) };
   receiveds = record { table = received; place = 2; stands = record { named = refl; listed = refl; by_tree = refl; stored = refl }; is_like = likes_itself received; apart = (refl, (refl, (refl, (refl, (refl, tt))))) };
   metas = record { table = meta; place = 3; stands = record { named = refl; listed = refl; by_tree = refl; stored = refl }; is_like = likes_itself meta; apart = (refl, (refl, (refl, (refl, (refl, tt))))) };
@@ -34,10 +37,18 @@ moved_like like tree = record { name = refl; columns = refl; key = refl; uniques
 in_another_order : AreThere reordered
 unfolding same_name
 in_another_order = record {
-  versions = record { table = record version2 { tree = 1 }; place = 0; stands = record { named = refl; listed = refl; by_tree = refl; stored = refl }; is_like = moved_like version2 1; apart = (refl, (refl, (refl, tt))) };
-  receiveds = record { table = record received { tree = 4 }; place = 2; stands = record { named = refl; listed = refl; by_tree = refl; stored = refl }; is_like = moved_like received 4; apart = (refl, (refl, (refl, tt))) };
-  metas = record { table = record meta { tree = 3 }; place = 1; stands = record { named = refl; listed = refl; by_tree = refl; stored = refl }; is_like = moved_like meta 3; apart = (refl, (refl, (refl, tt))) };
+  firsts = record { table = record version { tree = 6 }; there = inr (inr (inr (inl refl))); name = refl; columns = refl };
+  versions = record { table = record version2 { tree = 1 }; place = 0; stands = record { named = refl; listed = refl; by_tree = refl; stored = refl }; is_like = moved_like version2 1; apart = (refl, (refl, (refl, (refl, tt)))) };
+  receiveds = record { table = record received { tree = 4 }; place = 2; stands = record { named = refl; listed = refl; by_tree = refl; stored = refl }; is_like = moved_like received 4; apart = (refl, (refl, (refl, (refl, tt)))) };
+  metas = record { table = record meta { tree = 3 }; place = 1; stands = record { named = refl; listed = refl; by_tree = refl; stored = refl }; is_like = moved_like meta 3; apart = (refl, (refl, (refl, (refl, tt)))) };
 }
+
+-- none of the others has the name of `version`
+no_first : (t : Table) → Has (received ∷ meta ∷ version2 ∷ []) t → t.name ≡ codes "version" → ⊥
+no_first t (inl is) named = let clash : codes "received" ≡ codes "version" = sym (ap (λ (u : Table). u.name) is) ∙ named in absurd (cc)
+no_first t (inr (inl is)) named = let clash : codes "meta" ≡ codes "version" = sym (ap (λ (u : Table). u.name) is) ∙ named in absurd (cc)
+no_first t (inr (inr (inl is))) named = let clash : codes "version2" ≡ codes "version" = sym (ap (λ (u : Table). u.name) is) ∙ named in absurd (cc)
+no_first t (inr (inr (inr never))) named = absurd never
 
 found_there : tree_of received reordered ≡ 4
 unfolding tree_named same_name
@@ -86,6 +97,7 @@ stores_hold = record {
   with_another = with_another;
   in_another_order = in_another_order;
   found_there = found_there;
+  not_without_first = λ are. no_first are.firsts.table are.firsts.there are.firsts.name;
   not_with_a_column_less = not_narrower;
   not_where_a_key_leads_there = not_led_to;
   others_still = others_still;

@@ -30,11 +30,16 @@ with_reasons = record store_schema {
 abbrev pub reordered : Schema
 reordered = record {
   tables = record version2 { tree = 1 } ∷ record meta { tree = 3 }
-      ∷ record received { tree = 4 } ∷ [];
+      ∷ record received { tree = 4 } ∷ record version { tree = 6 } ∷ [];
   indexes = automatic (record version2 { tree = 1 }) 0 (1 ∷ 2 ∷ 3 ∷ 8 ∷ []) 2
-      ∷ automatic (record received { tree = 4 }) 0 (1 ∷ 2 ∷ []) 5 ∷ [];
+      ∷ automatic (record received { tree = 4 }) 0 (1 ∷ 2 ∷ []) 5
+      ∷ automatic (record version { tree = 6 }) 0 (1 ∷ 2 ∷ 3 ∷ 8 ∷ []) 7 ∷ [];
   views = [];
 }
+
+-- a store's own schema from which `version` is gone
+abbrev pub without_first : Schema
+without_first = record store_schema { tables = received ∷ meta ∷ version2 ∷ [] }
 
 -- `received` without its last column
 abbrev pub without_rule : Table
@@ -70,6 +75,7 @@ pub record WorkedStores : Type 0 where
   pub with_another : AreThere with_reasons
   pub in_another_order : AreThere reordered
   pub found_there : tree_of received reordered ≡ 4
+  pub not_without_first : ¬ AreThere without_first
   pub not_with_a_column_less : ¬ HasTable received narrower
   pub not_where_a_key_leads_there : ¬ HasTable received of_files
   pub others_still : HasTable version2 of_files

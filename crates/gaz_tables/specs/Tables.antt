@@ -1,6 +1,7 @@
 -- Where the tables of a store stand in a schema, whatever else the schema has, and their rows.
 use Rattle.std.specs.Prelude.{◌≡◌, ℕ, List, option_and_then, option_map}
 use Rattle.std.specs.Prelude.{slice_get, unwrap_or}
+use Rattle.sqlite_rules.specs.Lists.{Has}
 use Rattle.sqlite_schema.specs.declared.schema.Schema.{Schema}
 use Rattle.sqlite_schema.specs.declared.schema.Table.{Table}
 use Rattle.sqlite_schema.specs.Names.{table_named}
@@ -49,8 +50,17 @@ pub record AreFirstThere (schema : Schema) : Type 0 where
   pub receiveds : HasTable received schema
   pub metas : HasTable meta schema
 
--- the three tables of a store stand in the schema, whatever else it has
+-- a table of this one's name, with its columns, is in the schema, whatever else is said of it
+pub record IsListed (like : Table) (schema : Schema) : Type 0 where
+  pub table : Table
+  pub there : Has schema.tables table
+  pub name : table.name ≡ like.name
+  pub columns : table.columns ≡ like.columns
+
+-- the three tables of a store stand in the schema, and `version` of schema 1 is still in it,
+-- whatever else it has
 pub record AreThere (schema : Schema) : Type 0 where
+  pub firsts : IsListed version schema
   pub versions : HasTable version2 schema
   pub receiveds : HasTable received schema
   pub metas : HasTable meta schema

@@ -54,7 +54,8 @@ pub(crate) const LINE_EXAMPLE: &str =
     "Example: gazhub line --store hub.db --register register.toml 42
 
 Prints: Flat 2, 12A-14 High Street, Arden, AR1 2DN
-  none                            nobody has the property, or it has no approved address
+  none                            nobody has the property, or it has no line now: no approved
+                                  address, or no name of its street in the address's language
 Exit status: 0 printed, 1 none, 2 usage, 3 fault";
 
 pub(crate) const EXTRACT_EXAMPLE: &str =

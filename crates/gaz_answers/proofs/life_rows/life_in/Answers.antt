@@ -9,7 +9,7 @@ returns-in_err-place-clause-told c = λ shows. absurd (c.in_err-place.ensures.to
 pub returns-in_err-code-clause-told : goal.returns-in_err-code-clause-told
 returns-in_err-code-clause-told c = λ shows.
     let row = item_row c.args.row.now shows in
-    absurd (c.in_err-code.ensures.told (record { code = row.cust; first = row.custodian.0; last = row.custodian.1 }))
+    absurd (c.in_err-code.ensures.told (row.cust, row.custodian))
 
 pub returns-in_err-born-clause-told : goal.returns-in_err-born-clause-told
 returns-in_err-born-clause-told c = λ shows. absurd (c.in_err-born.ensures.told (item_row c.args.row.now shows).born)

@@ -1,3 +1,4 @@
+use Rattle.gaz_counts.proofs.WorkedNoting.{noting_holds}
 use Rattle.std.proofs.Common.{refl}
 use Rattle.gaz_counts.proofs.laws.worked_examples.Goals as goal
 
@@ -13,4 +14,5 @@ returns c = record {
   judged_forgotten = record { reached = refl; held = tt };
   judged_unheard = λ h. let e = h.reached in absurd (cc);
   judged_waits = λ h. let e = h.held in absurd (cc);
+  noting = noting_holds;
 }

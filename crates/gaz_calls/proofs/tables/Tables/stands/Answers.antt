@@ -15,7 +15,7 @@ use Rattle.gaz_calls.proofs.tables.Tables.stands.Goals as goal
 
 pub returns : goal.returns
 returns g c =
-    asked_read _ _ _ _ c.in_ok-rows.rows c.stood_said.result _ _ _ _ _ c.newest_rows.ensures c.in_ok-rows.was c.stood_said.ensures.said c.stood_said.ensures.told c.read_plain.ensures
+    asked_read _ _ _ _ c.in_ok-rows.rows c.stood_said.result _ _ _ _ _ c.newest_rows.ensures c.in_ok-rows.was c.stood_said.ensures.said c.stood_said.ensures.told c.read_without_memory.ensures
     (λ db kept found. subst HasStood (sym c.deref-2.ensures.value) (stood_shown db c.args.code (number_of c.kind_in.result) c.deref.result.now c.in_ok-rows.rows.items kept found))
     (λ db kept found stood says.
     let rows = histories_in (rows_of db version2) c.args.code in

@@ -1,9 +1,5 @@
-use Rattle.std.proofs.Common.{rules}
-use Rattle.gaz_counts.proofs.Noting.{noted_others}
+use Rattle.gaz_counts.proofs.Noting.{notes_either}
 use Rattle.gaz_counts.proofs.counts.Counts.note.Goals as goal
 
-pub returns-in-Ok : goal.returns-in-Ok
-returns-in-Ok c = record {
-  own = search rules;
-  others = noted_others c.args.self.now.by_code c.insert.new.self c.args.code c.args.at_hand c.in-Ok.ensures.updates;
-}
+pub returns : goal.returns
+returns c = notes_either c.args.self.now (record { by_code = c.insert.new.self }) c.args.code c.args.at_hand c.insert.result c.insert.ensures.updates c.insert.ensures.absent c.insert.ensures.err

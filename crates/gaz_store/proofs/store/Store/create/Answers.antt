@@ -14,6 +14,7 @@ pub returns-in-Ok-clause-made : goal.returns-in-Ok-clause-made
 returns-in-Ok-clause-made g c =
     is_made (state g.S.Store c.over.result.tables.conn) c.over.result.tables.at_hand c.over.ensures.so c.over.result.judging c.over.ensures.idle (state g.S.Store c.args.conn) (register_text c.args.register.now) c.over.result.tables.failures c.over.ensures.failures
     (subst (λ h. HasCleanDisk (state g.S.Store h) → IsTrue (state g.S.Store h).is_open) (sym c.over.ensures.conn) (λ clean. (c.in-Ok.ensures.open clean).1))
+    (subst (λ h. HasCleanDisk (state g.S.Store h) → HasCleanDisk (state g.S.Store c.args.conn)) (sym c.over.ensures.conn) (clean_before (state g.S.Store c.args.conn) (state g.S.Store c.create.new.conn) _ _ c.in-Ok.ensures.leaves))
     (subst (λ h. HasCleanDisk (state g.S.Store h) → HasRoom (state g.S.Store c.args.conn).now.schema → IsNewStore schema_number (register_text c.args.register.now) (state g.S.Store c.args.conn).now (state g.S.Store h).now × ((state g.S.Store h).committed ≡ (state g.S.Store h).now))
     (sym c.over.ensures.conn) c.in-Ok.ensures.created)
     (subst (λ h. LeavesTheCommit (state g.S.Store h)) (sym c.over.ensures.conn) c.in-Ok.ensures.certain)
