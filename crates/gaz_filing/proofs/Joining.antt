@@ -1,5 +1,5 @@
 -- Calls over the same files are one run of one hub.
-use Rattle.std.proofs.Common.{◌≡◌, List, [], ◌∷◌, map, ◌∙◌, inl, inr, Option, Some, Err, ap, refl, subst, sym}
+use Rattle.std.proofs.Common.{◌≡◌, List, [], ◌∷◌, map, ◌∙◌, inl, inr, Option, Some, Err, ap, refl, subst, sym, true≢false}
 use Rattle.sqlite.specs.Effect.{Database}
 use Rattle.sqlite.specs.Files.{file_state, over_files}
 use Rattle.sqlite.specs.Held.{Held}
@@ -13,6 +13,7 @@ use Rattle.sqlite_store.specs.declared.store.FileStore.{FileStore}
 use Rattle.sqlite_trees.specs.Objects.{catalog_tree}
 use Rattle.sqlite_trees.specs.Tree.{Trees}
 use Rattle.gaz_calls.specs.Seen.{IsUnharmed}
+use Rattle.gaz_kept.proofs.MetaRows.{any_found}
 use Rattle.gaz_kept.specs.declared.refusal.StoreRefusal.{StoreRefusal}
 use Rattle.gaz_kept.specs.declared.refusal.StoreRefusal.TheVariants.{Fault}
 use Rattle.gaz_register.specs.Registers.{RegisterValue}
@@ -40,7 +41,7 @@ module _ {D : Type 0} (g : disk.Ghosts D) where
       record { clean = copied.was_clean; is_open = copied.was_open }
 
   -- what a connection that was closed held, the next one shows
-  shown_again : (old conn : Held (FileStore D g)) (files : Files D) → Closes g old (Some files) → Connects g files conn → HasCleanDisk (file_state conn) → (file_state conn).now ≡ (file_state old).now
+  pub shown_again : (old conn : Held (FileStore D g)) (files : Files D) → Closes g old (Some files) → Connects g files conn → HasCleanDisk (file_state conn) → (file_state conn).now ≡ (file_state old).now
   shown_again old conn files closes connects clean =
       let fine = was_unharmed old conn files closes connects clean in
       let opened = connects.opened clean in
@@ -86,6 +87,7 @@ module _ {D : Type 0} (g : disk.Ghosts D) where
         let fine = subst (λ k. HasCleanDisk (file_state k)) (sym makes.back) clean in
         let alone = made_alone register conn makes.store makes.made room (record { clean = fine; is_open = makes.made.is_open fine }) in
         subst (λ k. GoesOn register new_hub [] [] (file_state k).now) makes.back alone;
+    not_made = λ register files left conn after makes tables. absurd (true≢false (sym (any_found (file_state conn).now.schema tables.there) ∙ makes.free));
   }
 
   opens : (register : RegisterValue) (old conn next : Held (FileStore D g)) (files : Files D) → HasStoreOf register (file_state old).now → Closes g old (Some files) → Connects g files conn → HasCleanDisk (file_state conn)

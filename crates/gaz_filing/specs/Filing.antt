@@ -1,5 +1,6 @@
 -- What is done over a store's two files.
-use Rattle.std.specs.Prelude.{◌≡◌, ◌⊎◌, false, ℕ, List, Option, Some, None, Result, Err, IsTrue}
+use Rattle.std.specs.Prelude.{◌≡◌, ◌≢◌, ◌↔◌, false, ℕ, List, Option, Some, None, Result, Err}
+use Rattle.std.specs.Prelude.{IsTrue}
 use Rattle.std.specs.declared.marker.Brand.{Brand}
 use Rattle.sqlite.specs.Closing.{IsCopied, files_left}
 use Rattle.sqlite.specs.Files.{FailsToClose, Finds, IsCleanLeft, IsClosed, IsOpened, LeavesFiles}
@@ -20,6 +21,7 @@ use Rattle.gaz_tables.specs.Creating.{MayCreate}
 use Rattle.gaz_kept.specs.Opening.{Untouched, has_any, schema_number}
 use Rattle.gaz_kept.specs.declared.refusal.StoreRefusal.{StoreRefusal}
 use Rattle.gaz_kept.specs.declared.refusal.StoreRefusal.TheVariants.{BadSchema, Fault}
+use Rattle.gaz_kept.specs.declared.refusal.StoreRefusal.TheVariants.{OtherRegister}
 use Rattle.gaz_calls.specs.declared.growing.ExtendFault.{ExtendFault}
 use Rattle.gaz_store.specs.Opened.{IsMade, IsRefused}
 use Rattle.gaz_store.specs.Store.{seen_in}
@@ -70,17 +72,16 @@ module _ {D : Type 0} (g : disk.Ghosts D) where
 
   -- ---- why there is no store, and the connection is handed back over what was there
 
-  -- making one failed; or a table of such a name is there, and nothing is written
-  abbrev pub FindsTables : StoreRefusal → Held (FileStore D g) → Held (FileStore D g) → Type 0
-  FindsTables refusal conn back = (refusal ≡ Fault)
-      ⊎ ((refusal ≡ BadSchema) × IsTrue (has_any (file_state conn).now.schema)
-      × Untouched over_files conn back)
-
   -- none was made of the register; a stop leaves what was there, or a new store whole
   pub record HasNoNewStore (register : RegisterValue) (refusal : StoreRefusal)
       (conn back : Held (FileStore D g)) : Type 0 where
     pub refused : IsRefused over_files conn back
-    pub why : FindsTables refusal conn back
+    -- `BadSchema` just where a table named as one of a store's is there
+    pub named : (refusal ≡ BadSchema) ↔ IsTrue (has_any (file_state conn).now.schema)
+    -- and never that one is of another register
+    pub causes : refusal ≢ OtherRegister
+    -- where such a table is there nothing is written
+    pub untouched : IsTrue (has_any (file_state conn).now.schema) → Untouched over_files conn back
     pub leaves : MayCreate over_files conn back schema_number (register_text register)
 
   -- none of the register is there, for this reason, and nothing is written
@@ -116,6 +117,8 @@ module _ {D : Type 0} (g : disk.Ghosts D) where
     -- ---- a store is made
 
     pub record Makes (register : RegisterValue) (conn after : Held (FileStore D g)) : Type 0 where
+      -- no table named as one of a store's was there
+      pub free : has_any (file_state conn).now.schema ≡ false
       pub store : Store (FileStore D g) Brand over_files
       pub made : IsMade (file_state conn) (file_state store.tables.conn) (register_text register)
           (seen_in (register_text register) store)

@@ -10,6 +10,7 @@ use Rattle.sqlite_disk.specs.declared.Files.{Files}
 use Rattle.sqlite_store.specs.declared.store.FileStore.{FileStore}
 use Rattle.gaz_register.specs.Registers.{IsRegister, RegisterValue}
 use Rattle.gaz_tables.specs.Creating.{HasRoom}
+use Rattle.gaz_tables.specs.Stores.{HasTables}
 use Rattle.gaz_kept.specs.declared.refusal.StoreRefusal.{StoreRefusal}
 use Rattle.gaz_kept.specs.declared.refusal.StoreRefusal.TheVariants.{Fault}
 use Rattle.gaz_calls.specs.declared.growing.ExtendFault.{ExtendFault}
@@ -136,6 +137,10 @@ module _ {D : Type 0} (g : disk.Ghosts D) where
         (conn after : Held (FileStore D g))
         → Makes g files left register conn after → HasRoom (file_state conn).now.schema
         → HasCleanDisk (file_state after) → GoesOn register new_hub [] [] (file_state after).now
+    -- and none is made where a store's tables are there
+    pub not_made : (register : RegisterValue) (files : Files D) (left : Option (Files D))
+        (conn after : Held (FileStore D g))
+        → Makes g files left register conn after → ¬ HasTables (file_state conn).now
 
   -- over the files that were given back of a store, under its register
   pub record NextOpens : Type 0 where

@@ -7,7 +7,8 @@ use sqlite_disk::Disk;
 /// Calls over the same files, each of which is given what the one before gave back, or shows what a
 /// stop left of it, under whatever register, refused or not: they are one run of one hub over
 /// registers of which each extends the one before, and leave a store of the last, with each file
-/// that one of them received. They begin with a store that is there, was made or was migrated.
+/// that one of them received. They begin with a store that is there, was made or was migrated; and
+/// where a store's tables are there none is made.
 pub fn calls_are_one<D: Disk>()
     ensures { CallsAreOne D.Disk }
 {}

@@ -124,7 +124,8 @@ pub fn ask_store<D: Disk + Drop>(
 /// Answers at most so many peers at a hub of the register over the store in the files, which are
 /// given back where they can be closed, and says first to which port they come. Gives how many: not
 /// all of them where something failed, but one at least. Why there is no hub, and in which order,
-/// is said of `serve_opened`. What was at hand is never freed: who calls this is about to end.
+/// is said of `serve_opened`. What is at hand in the end is never freed: that is nothing but where
+/// all peers were answered, and then the program is about to end.
 pub fn serve_store<D: Disk + Drop, P: Peers, W: Write>(
     alloc: Global,
     files: Files<D>,
@@ -155,8 +156,7 @@ pub fn serve_store<D: Disk + Drop, P: Peers, W: Write>(
         at_hand,
         told,
     } = serve_opened(alloc, seed, conn, register, port, peers, w, connections);
-    // Who calls this is about to end, and the system takes back at once what would take longer to
-    // free piece by piece.
+    // The system takes back at once what would take longer to free piece by piece.
     forget(at_hand);
     let left = close(conn);
     FilesBack { left, told }

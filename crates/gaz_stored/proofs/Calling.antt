@@ -170,7 +170,18 @@ module _ {S : Type 0} (g : Ghosts S) where
       leads (Grew other grown (Err why) are new extends) (Whole fine same) =
           let is_old = sym same ∙ extends.undone fine store.stands.kept.tables in
           record { periods = []; periods_are = refl; run = ap hub_in is_old; last = is; store = subst (IsStoreOf register) (sym is_old) store; stays = tt }
-      leads (Grew other grown told are new extends) (CutOff itself may) =
+      leads (Grew other grown (Ok done) are new extends) (CutOff itself may) =
+          let one = one_register other are extends.first extends.opened (extends.trust may.clean) in
+          let between = extends.stops (stood_of other one) itself found may in
+          record {
+            periods = period grown [] [] ∷ [];
+            periods_are = refl;
+            run = (hub_in found, subst (λ r. Extends r grown) (sym one) extends.growth, between.still.hub, refl);
+            last = new;
+            store = record { stands = grown_stands other grown found extends.growth between.still.stands; whose = between.done };
+            stays = tt;
+          }
+      leads (Grew other grown (Err why) are new extends) (CutOff itself may) =
           let one = one_register other are extends.first extends.opened (extends.trust may.clean) in
           let between = extends.stops (stood_of other one) itself found may in
           let still = between.still in
@@ -196,6 +207,13 @@ module _ {S : Type 0} (g : Ghosts S) where
       leads (Moved other told migrates) (CutOff itself may) = unmoved (Moved other told migrates) (CutOff itself may) refl tt (is_current other told migrates)
       leads (Refused refused) (Whole fine same) = unmoved (Refused refused) (Whole fine same) refl tt (stays_as refused)
       leads (Refused refused) (CutOff itself may) = unmoved (Refused refused) (CutOff itself may) refl tt (stays_as refused)
+
+  -- a call over a store leaves one, of some register
+  pub leaves_store : (register : RegisterValue) (before after : Held S) (found : Database) → IsRegister register → IsStoreOf register (state g before).now → CameTo g before after → IsFoundAfter g before after found
+      → (last : RegisterValue) × IsRegister last × IsStoreOf last found
+  leaves_store register before after found is store came is_found =
+      let it = leads register before after is store found came is_found in
+      (last_register register it.periods, it.last, it.store)
 
   -- a disk that is clean behind a call was so before it
   pub was_clean : {before after : Held S} → CameTo g before after → HasCleanDisk (state g after) → HasCleanDisk (state g before)

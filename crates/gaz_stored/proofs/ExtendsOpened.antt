@@ -1,5 +1,5 @@
 -- What is told of a register that grows over a store, from the connection that is given to the one that is handed back.
-use Rattle.std.proofs.Common.{◌≡◌, ◌≢◌, ◌∙◌, inl, inr, Result, Ok, Err, OnErr, refl, sym, ap, subst}
+use Rattle.std.proofs.Common.{◌≡◌, ◌≢◌, ◌∙◌, inl, inr, Result, Ok, Err, OnErr, OnOk, refl, sym, ap, subst}
 use Rattle.std.specs.declared.marker.Brand.{Brand}
 use Rattle.sqlite.specs.Effect.{Database, IsDatabase}
 use Rattle.sqlite.specs.Held.{Held, state}
@@ -20,7 +20,7 @@ use Rattle.gaz_kept.proofs.Rewritten.{rewrites_stand}
 use Rattle.gaz_calls.specs.Altering.{MayWrite}
 use Rattle.gaz_calls.specs.Growing.{SparesUngrown, TellsGrowth, TellsRegisters, ToldOf, as_kept, register_then}
 use Rattle.gaz_calls.proofs.Grown.{growth_is}
-use Rattle.gaz_calls.specs.Seen.{IsUnharmed}
+use Rattle.gaz_calls.specs.Seen.{IsUnharmed, LeavesKept, kept_by_trees}
 use Rattle.gaz_calls.specs.declared.growing.ExtendFault.{ExtendFault}
 use Rattle.gaz_calls.specs.declared.growing.ExtendFault.TheVariants.{OtherRegister, RemovedCustodian, ChangedBlocks, Fault, Memory}
 use Rattle.gaz_store.specs.Extending.{KeepsContent, WritesRegister}
@@ -111,20 +111,29 @@ module _ {S : Type 0} {g : Ghosts S} (register grown : RegisterValue) (first las
     mine : IsOf (register_text register) (rows_of was.now meta)
     mine = from.judged clean stood.kept.tables
 
+    -- once it is told as done, what is left is of the grown one
+    done_so : OnOk told (IsOf (register_text grown) (rows_of db meta))
+    done_so = by_told told (keeps.whole (λ fine. from.opened.stands fine stood.kept))
+      where
+        by_told : (t : Result (Unit {0}) ExtendFault) → OnOk t (LeavesKept (register_text (register_then register grown t)) is) → OnOk t (IsOf (register_text grown) (rows_of db meta))
+        by_told (Ok done) whole = (kept_by_trees (register_text grown) db left.sound (whole db.trees left.clean left.left)).whose
+        by_told (Err why) none = tt
+
     -- what could be left before is the same
-    as_before : mid.may_leave db.trees → StopsBetween register grown was.now db
+    as_before : mid.may_leave db.trees → StopsBetween register grown told was.now db
     as_before here = elim (from.opened.leaves.crash clean db.trees here) [
       | inl early ↦
           let trees = itself db.trees (clean_before g before first.tables.conn from.opened.leaves clean) early in
           record {
             still = same_trees register was.now db stood left.sound trees;
             whose = inl (subst (IsOf (register_text register)) (sym (same_rows was.now db stood.kept left.sound trees meta)) mine);
+            done = done_so;
           }
       | inr never ↦ absurd never
     ]
 
     -- what is written is the same, of the grown register
-    as_written : Extends register grown → MayWrite mid (Registers (register_text grown)) db.trees → StopsBetween register grown was.now db
+    as_written : Extends register grown → MayWrite mid (Registers (register_text grown)) db.trees → StopsBetween register grown told was.now db
     as_written more made =
         let fine = made.unharmed in
         let kept = subst IsKept (sym (shown fine)) stood.kept in
@@ -137,21 +146,22 @@ module _ {S : Type 0} {g : Ghosts S} (register grown : RegisterValue) (first las
             subst (IsOf (register_text grown)) (sym (same_rows made.db db s.kept left.sound made.shown meta))
                 (rewrites_stand.is_of (register_text register) (register_text grown) mid.now made.db kept.tables (subst (λ (d : Database). IsOf (register_text register) (rows_of d meta)) (sym (shown fine)) mine) made.becomes),
           );
+          done = done_so;
         }
 
     has : IsUnharmed mid → HasTables mid.now
     has h = moved h stood.kept.tables
 
-    stops_so : StopsBetween register grown was.now db
+    stops_so : StopsBetween register grown told was.now db
     stops_so = by_growth (growth_of register grown) refl
       where
-        ungrown : (growth_of register grown ≢ Ok tt) → StopsBetween register grown was.now db
+        ungrown : (growth_of register grown ≢ Ok tt) → StopsBetween register grown told was.now db
         ungrown not = elim ((spares not has).crash left.clean db.trees left.left) [
           | inl here ↦ as_before here
           | inr never ↦ absurd never
         ]
 
-        by_growth : (r : Result (Unit {0}) GrowFault) → growth_of register grown ≡ r → StopsBetween register grown was.now db
+        by_growth : (r : Result (Unit {0}) GrowFault) → growth_of register grown ≡ r → StopsBetween register grown told was.now db
         by_growth (Ok done) e = elim ((writes.leaves has).crash left.clean db.trees left.left) [
           | inl here ↦ as_before here
           | inr made ↦ as_written (growth_is register grown e) made

@@ -1,5 +1,6 @@
 -- What is said of a hub that was used over a store, from the connection that is given to the one that is handed back.
-use Rattle.std.proofs.Common.{◌≡◌, ℕ, List, [], subst, sym, Ok}
+use Rattle.std.proofs.Common.{◌≡◌, inl, inr, ℕ, Bool, true, false, List, [], subst, sym, Result, Ok, Err}
+use Rattle.std.proofs.lemmas.Bool.{cases_Bool}
 use Rattle.std.specs.declared.marker.Brand.{Brand}
 use Rattle.sqlite.specs.Held.{Held, state}
 use Rattle.sqlite.specs.State.{HasCleanDisk, State}
@@ -8,7 +9,9 @@ use Rattle.gaz_register.specs.Registers.{RegisterValue}
 use Rattle.gaz_register.specs.Texts.{register_text}
 use Rattle.gaz_keeper.specs.Keeper.{Seen}
 use Rattle.gaz_tables.specs.Creating.{HasRoom}
-use Rattle.gaz_kept.specs.Opening.{Judges, Tells}
+use Rattle.gaz_kept.specs.Opening.{Judges, Tells, has_all}
+use Rattle.gaz_kept.specs.declared.refusal.StoreRefusal.{StoreRefusal}
+use Rattle.gaz_kept.specs.declared.refusal.StoreRefusal.TheVariants.{BadSchema}
 use Rattle.gaz_calls.specs.Seen.{IsUnharmed}
 use Rattle.gaz_calls.specs.declared.tables.Tables.{Tables}
 use Rattle.gaz_store.specs.Opened.{IsMade, IsOpened}
@@ -31,9 +34,21 @@ same_seen : {S R N : Type 0} {g : Ghosts S} (text : List ℕ) (one : Store S R g
 same_seen {S} {R} {N} {g} text one other same P =
     subst (λ (p : Tables S g × Judging). P (state g p.0.conn) (seen_beside text (state g p.0.conn) p.0.at_hand p.1 p.0.failures)) (λ i. (sym same.tables i, sym same.judging i))
 
+-- what is told as Ok is refused for no reason
+pub not_so : (b : Bool) → (b ≡ false → ◌≡◌ {A = Result (Unit {0}) StoreRefusal} (Ok tt) (Err BadSchema)) → b ≡ true
+not_so b why = elim (cases_Bool b) [ inl is ↦ is | inr not ↦ let no = why not in absurd (cc) ]
+
+-- a store that is told of was there
+pub opened_from : {S R : Type 0} {g : Ghosts S} (register : RegisterValue) (before : Held S) (first : Store S R g) → (has_all (state g before).now.schema ≡ false → ◌≡◌ {A = Result (Unit {0}) StoreRefusal} (Ok tt) (Err BadSchema))
+    → IsOpened (state g before) (state g first.tables.conn) (register_text register) (seen_in (register_text register) first) → Tells g before first.tables.conn (Ok tt) (register_text register)
+    → Judges g before first.tables.conn (Ok tt) (register_text register) → IsOpenedFrom g register before first
+opened_from {S} {R} {g} register before first lacking opened told judged =
+    record { all = not_so (has_all (state g before).now.schema) lacking; opened = opened; told = told; judged = judged }
+
 -- so is that it was opened
 same_opened : {S R N : Type 0} {g : Ghosts S} (register : RegisterValue) (before : Held S) (one : Store S R g) (other : Store S N g) → IsSame one other → IsOpenedFrom g register before one → IsOpenedFrom g register before other
 same_opened {S} {R} {N} {g} register before one other same from = record {
+  all = from.all;
   opened = same_seen (register_text register) one other same (λ s seen. IsOpened (state g before) s (register_text register) seen) from.opened;
   told = subst (λ (t : Tables S g). Tells g before t.conn (Ok tt) (register_text register)) (sym same.tables) from.told;
   judged = subst (λ (t : Tables S g). Judges g before t.conn (Ok tt) (register_text register)) (sym same.tables) from.judged;

@@ -1,5 +1,5 @@
 -- Worked examples on calls one after another.
-use Rattle.std.specs.Prelude.{◌≡◌, List, [], ◌∷◌, Ok}
+use Rattle.std.specs.Prelude.{◌≡◌, List, [], ◌∷◌, Ok, Err}
 use Rattle.std.proofs.Common.{refl}
 use Rattle.std.specs.declared.marker.Brand.{Brand}
 use Rattle.sqlite.specs.Effect.{Database}
@@ -8,13 +8,14 @@ use Rattle.sqlite_trees.specs.declared.store.Store.{Ghosts}
 use Rattle.gaz_register.specs.Registers.{IsRegister, RegisterValue}
 use Rattle.gaz_calls.specs.Seen.{IsUnharmed}
 use Rattle.gaz_calls.specs.WorkedGrowing.{county, town}
+use Rattle.gaz_calls.specs.declared.growing.ExtendFault.{ExtendFault}
 use Rattle.gaz_store.specs.Opened.{IsRefused}
 use Rattle.gaz_store.specs.declared.store.Store.{Store}
 use Rattle.gaz_steps.specs.Growth.{GrownRun, Period}
 use Rattle.gaz_steps.specs.Step.{Command, Pose, Response}
 use Rattle.gaz_steps.specs.declared.question.Question.TheVariants.{Settle}
-use Rattle.gaz_stored.specs.Calls.{AreAllPeriods, AreOneRun, ArePeriodsOf, Call, FollowOn, Grew}
-use Rattle.gaz_stored.specs.Calls.{Refused, Used, Whole}
+use Rattle.gaz_stored.specs.Calls.{AreAllPeriods, AreLeftOf, AreOneRun, ArePeriodsOf, Call}
+use Rattle.gaz_stored.specs.Calls.{FollowOn, Grew, Refused, Used, Whole}
 use Rattle.gaz_stored.specs.Calls.{found_last, period, periods_in}
 use Rattle.gaz_stored.specs.Examples.{bare_database, sends, worked_database, worked_hub}
 use Rattle.gaz_stored.specs.Extending.{ExtendsOpened}
@@ -56,6 +57,14 @@ module _ {S : Type 0} (g : Ghosts S) (conn : Held S) (refused : IsRefused g conn
     pub grows : (register grown : RegisterValue) (is : IsRegister register) (are : IsRegister grown)
         (extends : ExtendsOpened g register grown conn conn (Ok tt))
         → periods_in g (Grew register grown (Ok tt) is are extends) ≡ period grown [] [] ∷ []
+    -- that it has grown isn't lost once it was told, and else may be
+    pub not_lost : (register grown : RegisterValue) (is : IsRegister register)
+        (are : IsRegister grown) (extends : ExtendsOpened g register grown conn conn (Ok tt))
+        → ¬ AreLeftOf g (Grew register grown (Ok tt) is are extends) []
+    pub may_be_lost : (register grown : RegisterValue) (why : ExtendFault)
+        (is : IsRegister register) (are : IsRegister grown)
+        (extends : ExtendsOpened g register grown conn conn (Err why))
+        → AreLeftOf g (Grew register grown (Err why) is are extends) []
     pub none : FollowOn g bare_database []
     pub twice : FollowOn g (state g conn).now (in_vain ∷ in_vain ∷ [])
     -- another database was found

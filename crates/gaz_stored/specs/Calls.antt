@@ -81,12 +81,14 @@ module _ {S : Type 0} (g : Ghosts S) where
   periods_in (Refused refused) = []
 
   -- what is left of that where the call was cut off: the first of what was asked and said, and one
-  -- that was cut off; that the register has grown, or nothing
+  -- that was cut off; that the register has grown, where that was told, else that or nothing
   abbrev pub AreLeftOf : {before after : Held S} → CameTo before after → List Period → Type 0
   AreLeftOf (Used register first commands responses is uses) periods =
       (asked : List Command) × (said : List Response)
       × IsCutTo commands responses asked said × (periods ≡ period register asked said ∷ [])
-  AreLeftOf (Grew register grown told is are extends) periods =
+  AreLeftOf (Grew register grown (Ok done) is are extends) periods =
+      periods ≡ period grown [] [] ∷ []
+  AreLeftOf (Grew register grown (Err why) is are extends) periods =
       (periods ≡ []) ⊎ (periods ≡ period grown [] [] ∷ [])
   AreLeftOf (Moved register told migrates) periods = periods ≡ []
   AreLeftOf (Refused refused) periods = periods ≡ []

@@ -1,5 +1,5 @@
 -- A register that grows over the store behind a connection.
-use Rattle.std.specs.Prelude.{◌≡◌, ◌⊎◌, Result, OnErr}
+use Rattle.std.specs.Prelude.{◌≡◌, ◌⊎◌, Result, OnErr, OnOk}
 use Rattle.std.specs.declared.marker.Brand.{Brand}
 use Rattle.sqlite.specs.Effect.{Database}
 use Rattle.sqlite.specs.Held.{Held, state}
@@ -26,10 +26,13 @@ pub record StandsStill (register : RegisterValue) (old new : Database) : Type 0 
   pub stands : StandForRun register new
 
 -- what a stop leaves: the same, of either register, of the grown one only where it is a growth
-pub record StopsBetween (register grown : RegisterValue) (old new : Database) : Type 0 where
+pub record StopsBetween (register grown : RegisterValue) (told : Result (Unit {0}) ExtendFault)
+    (old new : Database) : Type 0 where
   pub still : StandsStill register old new
   pub whose : IsOf (register_text register) (rows_of new meta)
       ⊎ (Extends register grown × IsOf (register_text grown) (rows_of new meta))
+  -- once it is told as done, of the grown one
+  pub done : OnOk told (IsOf (register_text grown) (rows_of new meta))
 
 -- the store that was opened so was to grow from this register to that one, and this was told
 pub record ExtendsOpened {S : Type 0} (g : Ghosts S) (register grown : RegisterValue)
@@ -54,4 +57,4 @@ pub record ExtendsOpened {S : Type 0} (g : Ghosts S) (register grown : RegisterV
   -- and so does what a stop leaves at the end, where a stop left just these tables at the beginning
   pub stops : StandForRun register (state g before).now → LeavesItself (state g before)
       → (db : Database) → MayBeLeft (state g after) db
-      → StopsBetween register grown (state g before).now db
+      → StopsBetween register grown told (state g before).now db

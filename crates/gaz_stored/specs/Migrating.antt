@@ -22,7 +22,7 @@ use Rattle.gaz_steps.specs.Step.{HubState}
 use Rattle.gaz_calls.specs.Seen.{IsUnharmed}
 use Rattle.gaz_store.specs.Opened.{IsRefused}
 use Rattle.gaz_stored.specs.Runs.{IsStoreOf, hub_in}
-use Rattle.gaz_stored.specs.Stopping.{LeavesItself}
+use Rattle.gaz_stored.specs.Stopping.{LeavesItself, MayBeLeft}
 use Rattle.gaz_stored.specs.declared.migrating.Migration.{Migration}
 use Rattle.gaz_stored.specs.declared.migrating.Migration.TheVariants.{Done, Current}
 
@@ -75,6 +75,8 @@ module _ {S : Type 0} (g : Ghosts S) (register : RegisterValue) (before after : 
 
   -- there was a store, or one was made of the tables of schema 1, and this was told
   pub record MigratesOpened (told : Migration) : Type 0 where
+    -- there were the tables of a store, or those of schema 1
+    pub some : (has_all old.schema ≡ true) ⊎ (has_first old.schema ≡ true)
     -- it was of schema 1 just where that is told
     pub told_is : told ≡ told_of (has_first old.schema)
     -- the row of `meta` was of the register
@@ -90,6 +92,9 @@ module _ {S : Type 0} (g : Ghosts S) (register : RegisterValue) (before after : 
     -- where they stood for a partial run, they go on to stand for the same hub
     pub moves : IsUnharmed (state g after) → FirstStandForRun register old
         → StandsMoved register old (state g after).now
+    -- and so does what a stop leaves then
+    pub stops : IsUnharmed (state g after) → FirstStandForRun register old
+        → (db : Database) → MayBeLeft (state g after) db → StandsMoved register old db
 
   -- why there is none of this register, where that is told: what is told of the rows of `meta`, of
   -- either schema; the database holds what it held

@@ -1,6 +1,6 @@
 -- A hub that is used over the store behind a connection, from the connection that is given to the
 -- one that is handed back.
-use Rattle.std.specs.Prelude.{◌≡◌, false, ℕ, List, Result, Ok, Err, IfErr}
+use Rattle.std.specs.Prelude.{◌≡◌, false, true, ℕ, List, Result, Ok, Err, IfErr}
 use Rattle.std.specs.declared.marker.Brand.{Brand}
 use Rattle.sqlite.specs.Held.{Held, state}
 use Rattle.sqlite.specs.State.{HasCleanDisk}
@@ -45,6 +45,8 @@ pub record UsedAs {S R : Type 0} {g : Ghosts S} (N : Type 0) (text : List ℕ)
 -- of `meta` is
 pub record IsOpenedFrom {S R : Type 0} (g : Ghosts S) (register : RegisterValue) (before : Held S)
     (first : Store S R g) : Type 0 where
+  -- each table of a store was there, with its columns
+  pub all : has_all (state g before).now.schema ≡ true
   pub opened : IsOpened (state g before) (state g first.tables.conn) (register_text register)
       (seen_in (register_text register) first)
   pub told : Tells g before first.tables.conn (Ok tt) (register_text register)

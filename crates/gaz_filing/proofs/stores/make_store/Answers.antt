@@ -1,6 +1,6 @@
 use Rattle.std.proofs.Common.{refl, sym}
 use Rattle.gaz_filing.specs.Filing.{NoConnection}
-use Rattle.gaz_filing.proofs.Filing.{makes_none}
+use Rattle.gaz_filing.proofs.Filing.{is_free, makes_none}
 use Rattle.gaz_filing.proofs.stores.make_store.Goals as goal
 
 pub returns-in-Err-clause-none : goal.returns-in-Err-clause-none
@@ -13,7 +13,7 @@ returns-in-Ok-create-clause-made g c = (
     conn = c.in-Ok.conn;
     after = c.into_connection.result;
     connects = c.in-Ok.ensures.had;
-    does = record { store = c.in-Ok-create.store; made = c.in-Ok-create.ensures.made; back = sym c.into_connection.ensures.conn };
+    does = record { free = is_free _ c.in-Ok-create.ensures.named; store = c.in-Ok-create.store; made = c.in-Ok-create.ensures.made; back = sym c.into_connection.ensures.conn };
     closes = c.close-left.ensures;
   },
 )

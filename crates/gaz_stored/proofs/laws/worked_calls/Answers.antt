@@ -1,5 +1,5 @@
 -- Worked examples on calls one after another.
-use Rattle.std.proofs.Common.{◌≡◌, ◌∙◌, List, [], ◌∷◌, ◌++◌, refl, sym, true≢false}
+use Rattle.std.proofs.Common.{◌≡◌, ◌∙◌, inl, List, [], ◌∷◌, ◌++◌, refl, sym, true≢false}
 use Rattle.gaz_steps.specs.Growth.{Period}
 use Rattle.gaz_steps.specs.Step.{Command}
 use Rattle.gaz_stored.specs.CallExamples.{WorkedCuts}
@@ -31,6 +31,8 @@ returns g c conn refused fine = record {
   asked = λ p are. none_asked p are.0 are.1 are.2 are.3 are.4;
   used = λ register first commands responses is uses. refl;
   grows = λ register grown is are extends. refl;
+  not_lost = λ register grown is are extends none. absurd (cc);
+  may_be_lost = λ register grown why is are extends. inl refl;
   none = tt;
   twice = (refl, (refl, tt));
   elsewhere = λ other follow. other follow.0;

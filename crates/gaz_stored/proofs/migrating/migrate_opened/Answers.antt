@@ -7,7 +7,7 @@ pub returns-in-Ok-clause-migrates : goal.returns-in-Ok-clause-migrates
 returns-in-Ok-clause-migrates g c =
     let ensures = c.in-Ok.ensures in
     subst (λ told. MigratesOpened g.S.Store c.args.register.now c.args.conn c.into_connection.result told) (sym c.told_of.ensures)
-    (migrates_opened g.S.Store c.args.register.now c.args.conn c.in-Ok.store c.into_connection.result (sym c.into_connection.ensures.conn) ensures.moved ensures.told ensures.told_first ensures.untouched ensures.leaves
+    (migrates_opened g.S.Store c.args.register.now c.args.conn c.in-Ok.store c.into_connection.result (sym c.into_connection.ensures.conn) ensures.lacking ensures.moved ensures.told ensures.told_first ensures.untouched ensures.leaves
     c.is_first-first.result c.is_first-first.ensures)
 
 pub returns-in-Ok-clause-stops : goal.returns-in-Ok-clause-stops
