@@ -30,7 +30,7 @@ impl Counts {
         self.by_code.get(&code).copied()
     }
 
-    /// This is at hand of a custodian from now on; where there is no memory for it, nothing of any.
+    /// This is at hand of a custodian from now on; where there is no memory for it, nothing is of it.
     pub fn note(&mut self, code: Code, at_hand: AtHand)
         ensures { Notes code at_hand self.old self.new }
     {
