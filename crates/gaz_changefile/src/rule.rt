@@ -23,7 +23,8 @@ pub const FORM: u8 = 6;
 /// An order that isn't the next of 1, 2, 3 and so on.
 pub const ORDER: u8 = 7;
 
-/// A trailer with another count, a record after the trailer, or no trailer at the end.
+/// A trailer that isn't two fields with the count of the change records, a record after the
+/// trailer, or no trailer at the end.
 pub const TRAILER: u8 = 8;
 
 /// More than 5,000 change records.

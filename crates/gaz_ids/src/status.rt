@@ -1,8 +1,7 @@
 ghost use Rattle.std.specs.Prelude.{◌≡◌};
 ghost use Rattle.gaz_ids.specs.Codes.{status_number, status_of, status_text};
 
-/// The logical status of a BLPU or an LPI (BS 7666:2006, Part 2; of its values those of our
-/// profile).
+/// The logical status of a BLPU or an LPI (our profile).
 #[derive(Clone, Copy, PartialEq, Eq, Hash)]
 pub enum Status {
     /// 1, approved or preferred.

@@ -18,7 +18,7 @@ pub type Easting = Number<21, 6, 0, 700_000>;
 /// Metres north of the false origin of the National Grid, 0 to 1,300,000 (our profile).
 pub type Northing = Number<22, 7, 0, 1_300_000>;
 
-/// A basic land and property unit (BS 7666:2006, Part 2).
+/// A basic land and property unit (BS 7666:2006, Part 2; all but its UPRN is our profile's).
 ///
 /// It is no alternative, and its end date isn't before its start date. `parent` is the BLPU of
 /// which it is a part.

@@ -10,7 +10,7 @@ use std::alloc::{AllocError, Global};
 use std::marker::Model;
 
 /// A street's descriptor: what it is called in a language, and where it lies (BS 7666:2006, Part 1;
-/// the lengths are our profile's).
+/// its fields and their lengths are our profile's).
 #[derive(Drop)]
 pub struct Descriptor {
     pub usrn: Usrn,

@@ -12,7 +12,8 @@ use gaz_ids::{Lang, Status, Uprn, Usrn};
 use std::alloc::{AllocError, Global};
 use std::marker::Model;
 
-/// A land and property identifier: an address of a BLPU on a street (BS 7666:2006, Part 2).
+/// A land and property identifier: an address of a BLPU on a street (BS 7666:2006, Part 2; its key,
+/// language, status and dates are our profile's).
 ///
 /// Its end date isn't before its start date.
 #[derive(Drop)]

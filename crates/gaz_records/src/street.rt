@@ -8,7 +8,7 @@ use gaz_ids::Usrn;
 use std::alloc::AllocError;
 use std::marker::Model;
 
-/// A street (BS 7666:2006, Part 1).
+/// A street (BS 7666:2006, Part 1; all but its USRN is our profile's).
 ///
 /// One with an end date is closed; `end` isn't before `start`.
 #[derive(Drop)]

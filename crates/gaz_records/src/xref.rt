@@ -11,8 +11,7 @@ use gaz_ids::Uprn;
 use std::alloc::{AllocError, Global};
 use std::marker::Model;
 
-/// An application cross reference: by what another source knows a BLPU (BS 7666:2006, Part 2; the
-/// bounds are our profile's).
+/// A cross reference: by what another source knows a BLPU (our profile).
 ///
 /// Its end date isn't before its start date.
 #[derive(Drop)]
