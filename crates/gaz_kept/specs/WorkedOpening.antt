@@ -7,6 +7,7 @@ use Rattle.sqlite.specs.declared.types.Value.TheVariants.{Int, Text, Null}
 use Rattle.gaz_tables.specs.Creating.{no_schema}
 use Rattle.gaz_tables.specs.Metas.{meta_row}
 use Rattle.gaz_tables.specs.Schema.{first_schema, meta, received, store_schema, version, version2}
+use Rattle.gaz_tables.specs.StoreExamples.{without_first}
 use Rattle.gaz_kept.specs.Opening.{IsJudged, has_all, has_any, has_column, is_like}
 use Rattle.gaz_kept.specs.declared.refusal.StoreRefusal.TheVariants.{BadSchema, OtherRegister}
 
@@ -21,10 +22,6 @@ schema_of_another = record { tables = meta_of_another ∷ []; indexes = []; view
 abbrev pub without_meta : Schema
 without_meta = record store_schema { tables = version ∷ received ∷ version2 ∷ [] }
 
--- and without `version`, which stays of schema 1
-abbrev pub without_version : Schema
-without_version = record store_schema { tables = received ∷ meta ∷ version2 ∷ [] }
-
 pub record WorkedSchemas : Type 0 where
   pub empty_is_free : has_any no_schema ≡ false
   pub empty_is_no_store : has_all no_schema ≡ false
@@ -33,7 +30,7 @@ pub record WorkedSchemas : Type 0 where
   pub first_is_taken : has_any first_schema ≡ true
   pub first_is_no_store : has_all first_schema ≡ false
   pub not_without_meta : has_all without_meta ≡ false
-  pub not_without_version : has_all without_version ≡ false
+  pub not_without_first : has_all without_first ≡ false
   pub other_case : has_any schema_of_another ≡ true
   pub no_columns : is_like meta meta_of_another ≡ false
   pub column_in_other_case : has_column meta (codes "Register") ≡ true

@@ -37,7 +37,7 @@ reordered = record {
   views = [];
 }
 
--- a store's own schema from which `version` is gone
+-- a store's own schema from which `version` is gone, which stays of schema 1
 abbrev pub without_first : Schema
 without_first = record store_schema { tables = received ∷ meta ∷ version2 ∷ [] }
 
