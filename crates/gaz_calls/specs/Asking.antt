@@ -1,5 +1,5 @@
 -- What a call tells that asks the tables and writes nothing.
-use Rattle.std.specs.Prelude.{◌≡◌, ◌≢◌, ◌≤◌, ◌<◌, ⊤, false, ℕ}
+use Rattle.std.specs.Prelude.{◌≡◌, ◌≢◌, ◌==◌, ◌≤◌, ◌<◌, ◌-◌, ◌^◌, ⊤, if◌then◌else◌, false, ℕ}
 use Rattle.std.specs.Prelude.{Result, Ok, Err, IfOk, IfErr, IsTrue, OnOk, OnErr}
 use Rattle.sqlite.specs.Effect.{Database}
 use Rattle.sqlite.specs.Held.{state}
@@ -79,12 +79,17 @@ pub record Fails {S : Type 0} {store : Ghosts S} (old new : Tables S store) (fau
   pub kept : old.failures ≤ new.failures
   pub counted : fault ≡ Store → old.failures < new.failures
 
+-- what a failure is told as behind so many that were counted: one more, unless the count is at its
+-- last value
+abbrev pub failure_behind : ℕ → ShelfFault
+failure_behind failures = if failures == 2 ^ 64 - 1 then Memory else Store
+
 -- no error is
 abbrev pub IsNever : {E : Type 0} → E → Type 0
 IsNever e = ⊥
 
 -- what was answered, by the connection or by whoever read its rows, or the fault that its error is:
--- `Memory` where the error is of those that are want of memory
+-- `Memory` where the error is of those that are want of memory, else a failure
 pub record Tells {S : Type 0} {store : Ghosts S} {T E : Type 0} (IsWant : E → Type 0)
     (old new : Tables S store) (answer : Result T E) (result : Result T ShelfFault) : Type 0 where
   pub conn : new.conn ≡ old.conn
@@ -92,4 +97,6 @@ pub record Tells {S : Type 0} {store : Ghosts S} {T E : Type 0} (IsWant : E → 
   pub same : IfOk result (λ x. answer ≡ Ok x)
   pub fault : OnErr result (OnOk answer ⊥)
   pub memory : (e : E) → IsWant e → answer ≡ Err e → result ≡ Err Memory
+  pub failure : (e : E) → ¬ IsWant e → answer ≡ Err e
+      → result ≡ Err (failure_behind old.failures)
   pub tallies : Tallies old.failures new.failures result

@@ -14,7 +14,7 @@ use Rattle.gaz_counts.specs.declared.at_hand.AtHand.{AtHand}
 use Rattle.gaz_counts.specs.declared.counts.Counts.{Counts}
 use Rattle.gaz_kept.specs.Examples.{six_files}
 use Rattle.gaz_kept.specs.Kept.{IsKept}
-use Rattle.gaz_calls.specs.Asking.{IsNoFailure, IsServed}
+use Rattle.gaz_calls.specs.Asking.{IsNoFailure, IsServed, failure_behind}
 use Rattle.gaz_calls.specs.Remembered.{AreSo, IsSo}
 use Rattle.gaz_calls.specs.Seen.{IsQuiet}
 
@@ -84,6 +84,8 @@ pub record WorkedAsking : Type 0 where
   pub answered : IsNoFailure {T = ℕ} (Ok 7)
   pub told_want : IsNoFailure {T = ℕ} (Err Memory)
   pub told_failure : ¬ IsNoFailure {T = ℕ} (Err Store)
+  pub counted : failure_behind 2 ≡ Store
+  pub past_counting : failure_behind (2 ^ 64 - 1) ≡ Memory
   -- a failure may be told where one came, and of a store's tables not else
   pub may_fail : (db : Database) → IsServed {T = ℕ} (failed_over db 2) (failed_over db 3) (Err Store)
   pub may_not : (db : Database) → IsKept db

@@ -1,9 +1,9 @@
 //! What each call on the tables begins and ends with.
-ghost use Rattle.std.specs.Prelude.{◌≡◌, ◌==◌, ◌^◌, ◌-◌, true, if◌then◌else◌};
-ghost use Rattle.std.specs.Prelude.{IsTrue, OnOk};
+ghost use Rattle.std.specs.Prelude.{◌≡◌, ◌≢◌, true, IsTrue, OnOk};
 ghost use Rattle.sqlite.specs.Held.{state};
 ghost use Rattle.sqlite.specs.State.{HasCleanDisk};
 ghost use Rattle.gaz_calls.specs.Asking.{AreReady, AsksTables, Fails, IsAnyway, IsNever, Tells};
+ghost use Rattle.gaz_calls.specs.Asking.{failure_behind};
 ghost use Rattle.gaz_kept.specs.Opening.{IsSettled};
 
 use crate::tables::Tables;
@@ -16,8 +16,7 @@ impl<S: Alter> Tables<S> {
     /// Counts a failure, where the count isn't at its last value.
     pub fn fail(&mut self) -> ShelfFault
         ensures fails { Fails self.old self.new result }
-        ensures fault { result ≡
-            (if self.old.failures == 2 ^ 64 - 1 then ShelfFault.Memory else ShelfFault.Store) }
+        ensures fault { result ≡ failure_behind self.old.failures }
     {
         if self.failures == u64::MAX {
             return ShelfFault::Memory;
@@ -31,6 +30,8 @@ impl<S: Alter> Tables<S> {
         ensures fails { Fails self.old self.new result }
         ensures memory { error ≡ Error.SqliteFailure ErrorCode.OutOfMemory
             → result ≡ ShelfFault.Memory }
+        ensures failure { error ≢ Error.SqliteFailure ErrorCode.OutOfMemory
+            → result ≡ failure_behind self.old.failures }
     {
         match error {
             Error::SqliteFailure(ErrorCode::OutOfMemory) => ShelfFault::Memory,
