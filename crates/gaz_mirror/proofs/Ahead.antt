@@ -7,22 +7,23 @@ use Rattle.gaz_views.specs.View.{View}
 use Rattle.gaz_keeper.specs.Board.{last_view}
 use Rattle.gaz_keeper.specs.Keeper.{Content, Goes, Idle, IsAtHand, IsNotOpen, Open, Progress, Seen, after_abandon, with_working}
 use Rattle.gaz_keeper.specs.declared.fault.ShelfFault.{ShelfFault}
+use Rattle.gaz_keeper.specs.declared.shelf.Shelf.{Ghosts}
 use Rattle.gaz_mirror.specs.Gathering.{AreThen, made, makes}
 use Rattle.gaz_mirror.specs.InStep.{IsAhead}
 use Rattle.gaz_mirror.specs.Mirroring.{StandApart, StandsWith, mirrored}
 use Rattle.gaz_mirror.specs.declared.gathered.Change.{Change}
 use Rattle.gaz_mirror.specs.declared.gathered.Gathered.{Gathered}
+use Rattle.gaz_mirror.specs.declared.mirror.Mirror.{Mirror}
 
 pub there : {X : Type 0} (o : Option X) → IsSome o → (x : X) × (o ≡ Some x)
 there (Some x) is = (x, refl)
 there None is = cc
 
 -- the lower keeper of one that gathers is in no judgement
-pub closed : {U : Type 0} (seen : U → Seen) (lower : Progress) (upper : Option U) (gathered : Option Gathered) (g : Gathered) → ForSome gathered (λ _. IsSome upper)
-    → ForSome gathered (λ x. ForSome upper (λ u. IsAhead lower (seen u).progress x)) → gathered ≡ Some g → IsNotOpen lower
-closed seen lower upper gathered g at_hand ahead is =
-    let u = there upper (at_hand g is) in
-    (ahead g is u.0 u.1).closed
+pub closed : {L U : Type 0} {lower : Ghosts L} {upper : Ghosts U} (m : Mirror L U lower upper) (g : Gathered) → m.gathered ≡ Some g → IsNotOpen (lower.seen m.lower).progress
+closed m g is =
+    let u = there m.upper (m.at_hand g is) in
+    (m.ahead g is u.0 u.1).closed
 
 -- what two are, those are that are called so
 pub ahead_by : {U : Type 0} (seen : U → Seen) (low : Progress) (v : U) (x : Gathered) → IsAhead low (seen v).progress x → (y : Gathered) → Some x ≡ Some y → (u : U) → Some v ≡ Some u → IsAhead low (seen u).progress y

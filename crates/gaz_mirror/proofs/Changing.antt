@@ -1,5 +1,5 @@
 -- What a change of a judgement tells of a keeper over two.
-use Rattle.std.proofs.Common.{◌≡◌, ◌∙◌, true, Err, None, Ok, OnErr, OnOk, Option, Result, Some, is_ok, refl, subst, sym}
+use Rattle.std.proofs.Common.{◌≡◌, ◌∙◌, true, Err, None, Ok, OnErr, OnOk, Option, Result, Some, ap, is_ok, refl, subst, sym}
 use Rattle.std.specs.Option.{ForSome}
 use Rattle.gaz_views.proofs.Outcomes.{on_ok}
 use Rattle.gaz_keeper.specs.Keeper.{Broken, Content, Enters, Goes, Idle, IsLeft, IsNotOpen, IsSound, LeavesAtMost, LeavesJust, Progress, Seen}
@@ -76,11 +76,6 @@ pub goes_below : {U T : Type 0} (seen : U → Seen) (old new : Seen) (was : Opti
 goes_below seen old new was r asked becomes commits after goes =
     goes_mirrored seen old new was None r asked becomes (λ stood. goes.stands (stands_below seen old was None stood)) commits after goes
 
-pub enters_below : {U T : Type 0} (seen : U → Seen) (old new : Seen) (was : Option U) (r : Result T ShelfFault) (asked : Type 0) (becomes : Content)
-    → Enters old new r asked becomes → Enters (mirrored seen old was None) (mirrored seen new None None) r asked becomes
-enters_below seen old new was r asked becomes enters =
-    enters_mirrored seen old new was None r asked becomes (λ stood. enters.stands (stands_below seen old was None stood)) enters
-
 -- both were changed
 pub goes_both : {U T : Type 0} (seen : U → Seen) (sole : (u : U) → (seen u).unharmed) (old new : Seen) (upper : Option U) (was now : U) (r r' : Result T ShelfFault) (asked asked' : Type 0)
     (becomes becomes' : Content) (commits commits' : Option Content) (after after' : Progress) → upper ≡ Some was → is_ok r ≡ true → is_ok r' ≡ true
@@ -90,14 +85,6 @@ pub goes_both : {U T : Type 0} (seen : U → Seen) (sole : (u : U) → (seen u).
 goes_both seen sole old new upper was now r r' asked asked' becomes becomes' commits commits' after after' is ok ok' goes above asks same =
     goes_mirrored seen old new upper (Some now) r asked becomes (both_stand seen sole old new upper was now r r' asked asked' becomes becomes' is ok ok'
     (λ stood met fine. (goes.stands stood met fine, goes.done stood met fine)) (λ stood met fine. (above.stands stood met fine, above.done stood met fine)) asks same) commits after goes
-
-pub enters_both : {U T : Type 0} (seen : U → Seen) (sole : (u : U) → (seen u).unharmed) (old new : Seen) (upper : Option U) (was now : U) (r r' : Result T ShelfFault) (asked asked' : Type 0)
-    (becomes becomes' : Content) → upper ≡ Some was → is_ok r ≡ true → is_ok r' ≡ true → Enters old new r asked becomes → Enters (seen was) (seen now) r' asked' becomes'
-    → ((seen was).content ≡ old.content → asked → asked') → ((seen was).content ≡ old.content → becomes' ≡ becomes)
-    → Enters (mirrored seen old upper None) (mirrored seen new (Some now) None) r asked becomes
-enters_both seen sole old new upper was now r r' asked asked' becomes becomes' is ok ok' enters above asks same =
-    enters_mirrored seen old new upper (Some now) r asked becomes (both_stand seen sole old new upper was now r r' asked asked' becomes becomes' is ok ok'
-    (λ stood met fine. (enters.stands stood met fine, enters.done stood met fine)) (λ stood met fine. (above.stands stood met fine, above.done stood met fine)) asks same) enters
 
 -- ---- where nothing is gathered
 
@@ -110,16 +97,32 @@ goes_settled seen old new was now gathered r asked f commits after none =
     subst (λ (o : Option Gathered). Goes (mirrored seen old was o) (mirrored seen new now o) r (asked (mirrored seen old was o).content) (f (mirrored seen old was o).progress (mirrored seen old was o).content)
     (commits (f (mirrored seen old was o).progress (mirrored seen old was o).content)) (after (mirrored seen old was o).progress)) (sym none)
 
-pub enters_settled : {U T : Type 0} (seen : U → Seen) (old new : Seen) (was now : Option U) (gathered : Option Gathered) (r : Result T ShelfFault) (asked : Content → Type 0) (f : Content → Content)
-    → gathered ≡ None → Enters (mirrored seen old was None) (mirrored seen new now None) r (asked old.content) (f old.content)
-    → Enters (mirrored seen old was gathered) (mirrored seen new now gathered) r (asked (mirrored seen old was gathered).content) (f (mirrored seen old was gathered).content)
-enters_settled seen old new was now gathered r asked f none =
-    subst (λ (o : Option Gathered). Enters (mirrored seen old was o) (mirrored seen new now o) r (asked (mirrored seen old was o).content) (f (mirrored seen old was o).content)) (sym none)
-
 -- a judgement that is gathered is open
 pub settled : (lower : Progress) (gathered : Option Gathered) → IsNotOpen (progress_with lower gathered) → gathered ≡ None
 settled lower None closed = refl
 settled lower (Some g) closed = absurd (closed g.code refl)
+
+enters_settled : {U T : Type 0} (seen : U → Seen) (old new : Seen) (was now : Option U) (gathered : Option Gathered) (r : Result T ShelfFault) (asked : Content → Type 0) (f : Content → Content)
+    → IsNotOpen (progress_with old.progress gathered) → Enters (mirrored seen old was None) (mirrored seen new now None) r (asked old.content) (f old.content)
+    → Enters (mirrored seen old was gathered) (mirrored seen new now gathered) r (asked (mirrored seen old was gathered).content) (f (mirrored seen old was gathered).content)
+enters_settled seen old new was now gathered r asked f closed =
+    subst (λ (o : Option Gathered). Enters (mirrored seen old was o) (mirrored seen new now o) r (asked (mirrored seen old was o).content) (f (mirrored seen old was o).content)) (sym (settled old.progress gathered closed))
+
+-- only the lower one is left
+pub entered_below : {U T : Type 0} (seen : U → Seen) (old new : Seen) (was : Option U) (gathered : Option Gathered) (r : Result T ShelfFault) (asked : Content → Type 0) (f : Content → Content)
+    → IsNotOpen (progress_with old.progress gathered) → Enters old new r (asked old.content) (f old.content)
+    → Enters (mirrored seen old was gathered) (mirrored seen new None gathered) r (asked (mirrored seen old was gathered).content) (f (mirrored seen old was gathered).content)
+entered_below seen old new was gathered r asked f closed enters =
+    enters_settled seen old new was None gathered r asked f closed (enters_mirrored seen old new was None r _ _ (λ stood. enters.stands (stands_below seen old was None stood)) enters)
+
+-- both were changed alike
+pub entered_both : {U T : Type 0} (seen : U → Seen) (sole : (u : U) → (seen u).unharmed) (old new : Seen) (upper : Option U) (was now : U) (gathered : Option Gathered) (r r' : Result T ShelfFault)
+    (asked : Content → Type 0) (f : Content → Content) → IsNotOpen (progress_with old.progress gathered) → upper ≡ Some was → is_ok r ≡ true → is_ok r' ≡ true
+    → Enters old new r (asked old.content) (f old.content) → Enters (seen was) (seen now) r' (asked (seen was).content) (f (seen was).content)
+    → Enters (mirrored seen old upper gathered) (mirrored seen new (Some now) gathered) r (asked (mirrored seen old upper gathered).content) (f (mirrored seen old upper gathered).content)
+entered_both seen sole old new upper was now gathered r r' asked f closed is ok ok' enters above =
+    enters_settled seen old new upper (Some now) gathered r asked f closed (enters_mirrored seen old new upper (Some now) r _ _ (both_stand seen sole old new upper was now r r' _ _ _ _ is ok ok'
+    (λ stood met fine. (enters.stands stood met fine, enters.done stood met fine)) (λ stood met fine. (above.stands stood met fine, above.done stood met fine)) (λ same. subst asked (sym same)) (ap f)) enters)
 
 -- ---- in answers
 

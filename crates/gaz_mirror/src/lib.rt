@@ -8,7 +8,6 @@ mod boards;
 mod changes;
 mod files;
 mod gathered;
-mod handing;
 mod judging;
 pub mod laws;
 mod mirror;

@@ -1,7 +1,7 @@
 -- Nothing is gathered.
-use Rattle.std.proofs.Common.{◌∙◌, None, Some, ap, refl, subst, sym}
+use Rattle.std.proofs.Common.{◌∙◌, refl, sym}
 use Rattle.gaz_keeper.specs.Keeper.{Content, IsAtHand, after_skip}
-use Rattle.gaz_mirror.proofs.Changing.{enters_below, enters_both, enters_settled, in_step_left, no_fault, settled}
+use Rattle.gaz_mirror.proofs.Changing.{entered_below, entered_both, in_step_left, no_fault, settled}
 use Rattle.gaz_mirror.proofs.boards.MirrorShelf.skip.Goals as goal
 
 pub invariant_of-self-2 : goal.invariant_of-self-2
@@ -12,23 +12,13 @@ invariant_of-self-2 g c =
 pub returns-2-clause-enters : goal.returns-2-clause-enters
 returns-2-clause-enters g c =
     let m = c.args.self.now in
-    let below = g.L.Shelf.seen m.lower in
-    let new = g.L.Shelf.seen c.skip-done.new.self in
-    let skipped = λ (k : Content). after_skip k c.args.code c.args.place c.args.rule in
-    enters_settled g.U.Shelf.seen below new m.upper None m.gathered c.skip-done.result (λ (k : Content). IsAtHand k c.args.code) skipped (settled below.progress m.gathered c.requires)
-    (enters_below g.U.Shelf.seen below new m.upper c.skip-done.result (IsAtHand below.content c.args.code) (skipped below.content) c.skip-done.ensures)
+    entered_below g.U.Shelf.seen _ _ m.upper m.gathered _ (λ (k : Content). IsAtHand k c.args.code) (λ (k : Content). after_skip k c.args.code c.args.place c.args.rule) c.requires c.skip-done.ensures
 
 pub returns-clause-enters : goal.returns-clause-enters
 returns-clause-enters g c =
     let m = c.args.self.now in
-    let below = g.L.Shelf.seen m.lower in
-    let above = g.U.Shelf.seen c.in-Some.upper in
-    let new = g.L.Shelf.seen c.skip-done.new.self in
-    let skipped = λ (k : Content). after_skip k c.args.code c.args.place c.args.rule in
-    let asked = λ (k : Content). IsAtHand k c.args.code in
-    enters_settled g.U.Shelf.seen below new m.upper (Some c.skip.new.self) m.gathered c.skip-done.result asked skipped (settled below.progress m.gathered c.requires)
-    (enters_both g.U.Shelf.seen g.met.U.Unshared.never_harmed below new m.upper c.in-Some.upper c.skip.new.self c.skip-done.result c.skip.result (asked below.content) (asked above.content)
-    (skipped below.content) (skipped above.content) c.in-Some.is (cc) (cc) c.skip-done.ensures c.skip.ensures (λ same. subst asked (sym same)) (ap skipped))
+    entered_both g.U.Shelf.seen g.met.U.Unshared.never_harmed _ _ m.upper c.in-Some.upper c.skip.new.self m.gathered c.skip-done.result c.skip.result
+    (λ (k : Content). IsAtHand k c.args.code) (λ (k : Content). after_skip k c.args.code c.args.place c.args.rule) c.requires c.in-Some.is (cc) (cc) c.skip-done.ensures c.skip.ensures
 
 pub invariant_of-self : goal.invariant_of-self
 invariant_of-self g c =

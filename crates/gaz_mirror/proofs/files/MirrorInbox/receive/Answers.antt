@@ -1,7 +1,7 @@
 -- Nothing is gathered.
-use Rattle.std.proofs.Common.{◌∙◌, None, Some, ap, refl, subst, sym}
+use Rattle.std.proofs.Common.{◌∙◌, refl, sym}
 use Rattle.gaz_keeper.specs.Keeper.{Content, IsNew, with_received}
-use Rattle.gaz_mirror.proofs.Changing.{enters_below, enters_both, enters_settled, in_step_left, no_fault, settled}
+use Rattle.gaz_mirror.proofs.Changing.{entered_below, entered_both, in_step_left, no_fault, settled}
 use Rattle.gaz_mirror.proofs.files.MirrorInbox.receive.Goals as goal
 
 pub invariant_of-self-2 : goal.invariant_of-self-2
@@ -12,24 +12,13 @@ invariant_of-self-2 g c =
 pub returns-2-clause-enters : goal.returns-2-clause-enters
 returns-2-clause-enters g c =
     let m = c.args.self.now in
-    let below = g.L.Shelf.seen m.lower in
-    let new = g.L.Shelf.seen c.receive-done.new.self in
-    let received = λ (k : Content). with_received k c.args.code c.args.volume c.args.bytes.now in
-    let fresh = λ (k : Content). IsNew k c.args.code c.args.volume in
-    enters_settled g.U.Shelf.seen below new m.upper None m.gathered c.receive-done.result fresh received (settled below.progress m.gathered c.requires)
-    (enters_below g.U.Shelf.seen below new m.upper c.receive-done.result (fresh below.content) (received below.content) c.receive-done.ensures.enters)
+    entered_below g.U.Shelf.seen _ _ m.upper m.gathered _ (λ (k : Content). IsNew k c.args.code c.args.volume) (λ (k : Content). with_received k c.args.code c.args.volume c.args.bytes.now) c.requires c.receive-done.ensures.enters
 
 pub returns-clause-enters : goal.returns-clause-enters
 returns-clause-enters g c =
     let m = c.args.self.now in
-    let below = g.L.Shelf.seen m.lower in
-    let above = g.U.Shelf.seen c.in-Some.upper in
-    let new = g.L.Shelf.seen c.receive-done.new.self in
-    let received = λ (k : Content). with_received k c.args.code c.args.volume c.args.bytes.now in
-    let asked = λ (k : Content). IsNew k c.args.code c.args.volume in
-    enters_settled g.U.Shelf.seen below new m.upper (Some c.receive.new.self) m.gathered c.receive-done.result asked received (settled below.progress m.gathered c.requires)
-    (enters_both g.U.Shelf.seen g.met.U.Unshared.never_harmed below new m.upper c.in-Some.upper c.receive.new.self c.receive-done.result c.receive.result (asked below.content) (asked above.content)
-    (received below.content) (received above.content) c.in-Some.is (cc) (cc) c.receive-done.ensures.enters c.receive.ensures.enters (λ same. subst asked (sym same)) (ap received))
+    entered_both g.U.Shelf.seen g.met.U.Unshared.never_harmed _ _ m.upper c.in-Some.upper c.receive.new.self m.gathered c.receive-done.result c.receive.result
+    (λ (k : Content). IsNew k c.args.code c.args.volume) (λ (k : Content). with_received k c.args.code c.args.volume c.args.bytes.now) c.requires c.in-Some.is (cc) (cc) c.receive-done.ensures.enters c.receive.ensures.enters
 
 pub invariant_of-self : goal.invariant_of-self
 invariant_of-self g c =

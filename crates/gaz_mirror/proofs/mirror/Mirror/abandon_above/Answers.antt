@@ -5,9 +5,7 @@ use Rattle.gaz_mirror.proofs.Ahead.{at_some, closed, given_up, of_gathered, ther
 use Rattle.gaz_mirror.proofs.mirror.Mirror.abandon_above.Goals as goal
 
 pub begin-requires : goal.begin-requires
-begin-requires g c =
-    let m = c.args.self.now in
-    closed g.U.Shelf.seen (g.L.Shelf.seen m.lower).progress m.upper m.gathered c.in-Some.gathered m.at_hand m.ahead (sym c.take.ensures.value ∙ c.in-Some.is)
+begin-requires g c = closed c.args.self.now c.in-Some.gathered (sym c.take.ensures.value ∙ c.in-Some.is)
 
 pub returns-clause-goes : goal.returns-clause-goes
 returns-clause-goes g c =

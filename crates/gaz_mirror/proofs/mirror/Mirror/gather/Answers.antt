@@ -4,12 +4,12 @@ use Rattle.std.specs.Prelude.{⊤, None, Ok, Some}
 use Rattle.gaz_keeper.specs.Keeper.{Content, Open, Progress, with_working}
 use Rattle.gaz_mirror.specs.Gathering.{AreThen, makes}
 use Rattle.gaz_mirror.specs.Mirroring.{lawful_with, mirrored}
-use Rattle.gaz_mirror.proofs.Ahead.{ahead_by, ahead_on, noted_down, of_gathered}
+use Rattle.gaz_mirror.proofs.Ahead.{ahead_by, ahead_on, closed, noted_down, of_gathered}
 use Rattle.gaz_mirror.proofs.Then.{goes_then}
 use Rattle.gaz_mirror.proofs.mirror.Mirror.gather.Goals as goal
 
 pub hand_to-requires : goal.hand_to-requires
-hand_to-requires g c = (c.args.self.now.ahead c.in-Some.gathered (sym c.take.ensures.value ∙ c.in-Some.is) c.in-Some-upper.upper c.in-Some-upper.is).closed
+hand_to-requires g c = closed c.args.self.now c.in-Some.gathered (sym c.take.ensures.value ∙ c.in-Some.is)
 
 pub make-requires-2 : goal.make-requires-2
 make-requires-2 g c = λ idle.
@@ -31,7 +31,7 @@ invariant_of-self-then-is_ok g c =
     }
 
 pub hand_to-requires-2 : goal.hand_to-requires-2
-hand_to-requires-2 g c = (c.args.self.now.ahead c.in-Some.gathered (sym c.take.ensures.value ∙ c.in-Some.is) c.in-Some-upper.upper c.in-Some-upper.is).closed
+hand_to-requires-2 g c = closed c.args.self.now c.in-Some.gathered (sym c.take.ensures.value ∙ c.in-Some.is)
 
 pub returns-then-not-note-clause-makes : goal.returns-then-not-note-clause-makes
 unfolding lawful_with

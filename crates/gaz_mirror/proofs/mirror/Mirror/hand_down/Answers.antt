@@ -3,6 +3,4 @@ use Rattle.gaz_mirror.proofs.Ahead.{closed}
 use Rattle.gaz_mirror.proofs.mirror.Mirror.hand_down.Goals as goal
 
 pub hand_to-requires : goal.hand_to-requires
-hand_to-requires g c =
-    let m = c.args.self.now in
-    closed g.U.Shelf.seen (g.L.Shelf.seen m.lower).progress m.upper m.gathered c.in-Some.gathered m.at_hand m.ahead (sym c.take.ensures.value ∙ c.in-Some.is)
+hand_to-requires g c = closed c.args.self.now c.in-Some.gathered (sym c.take.ensures.value ∙ c.in-Some.is)

@@ -12,6 +12,4 @@ invariant_of-self-in_default-copy g c =
     }
 
 pub hand_to-requires : goal.hand_to-requires
-hand_to-requires g c =
-    let m = c.args.self.now in
-    closed g.U.Shelf.seen (g.L.Shelf.seen m.lower).progress m.upper m.gathered c.in-Some.gathered m.at_hand m.ahead c.in-Some.is
+hand_to-requires g c = closed c.args.self.now c.in-Some.gathered c.in-Some.is
