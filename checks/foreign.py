@@ -203,6 +203,15 @@ def answers_empty(on: Ground, schema: list[str]) -> str | None:
     return fault_in(on.hubs.over(store, HISTORY + QUESTIONS), on.hubs.without_store(HISTORY + QUESTIONS).replies)
 
 
+def judges_all_that_is_ready(on: Ground, schema: list[str]) -> str | None:
+    """What is wrong with a store of which no file is judged yet, as a stop may leave it: one question has all that is ready judged before it is answered."""
+    store, asked, rows = on.place(), get("/custodians/1003"), rows_of(on.ready)
+    unjudged = [(code, volume, data, 0, 0, 0) for code, volume, data, *_ in rows["received"]]
+    write_store(store, schema, {"meta": rows["meta"], "received": unjudged})
+    fault = fault_in(on.hubs.over(store, asked), b"".join(on.right(asked)))
+    return fault or (None if rows_of(store) == rows else "its rows aren't those of files that were judged as they came")
+
+
 def schema_alike(on: Ground, schema: list[str]) -> str | None:
     """What is wrong where our store's schema isn't that of the page."""
     with opened(on.damaged()) as conn:
@@ -229,6 +238,7 @@ def run_all(root: Path, room: Path) -> Iterator[tuple[str, str | None]]:
         yield from ((f"with a further column of {table}", takes_later(on, table, *how)) for table, how in TAKING_NONE.items())
         yield from ((f"written by Python, {name}", answers_copy(on, *of)) for name, *of in schemas(schema, rows_of(on.ready)))
         yield "written by Python, with no file", answers_empty(on, schema)
+        yield "written by Python, with no file judged", judges_all_that_is_ready(on, schema)
         yield "written by Python, in UTF-16", refuses_utf_16(on, schema)
         yield "with the schema of the page", schema_alike(on, schema_in(root / "docs" / "tables.md"))
         yield "read by Python", sharing.python_reads(on)

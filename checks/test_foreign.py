@@ -5,6 +5,7 @@ from dataclasses import dataclass, field
 from pathlib import Path
 
 from checks import foreign, ground, history, schema2, sharing, tables
+from checks.conversations import requests_in
 from checks.in_folder import InAFolder
 from checks.stores import TEXT, Answered, Hubs, get
 from checks.written import SECOND, STORES
@@ -136,6 +137,44 @@ class ByOtherSchemas(InAFolder):
         for table, (_, sql) in foreign.TAKING_NONE.items():
             with tables.opened(on.damaged(sql)) as conn:
                 self.assertIn("x", [row[1] for row in conn.execute(f"PRAGMA table_info({table})")])
+
+
+REPLY = b"HTTP/1.1 200 OK\r\nContent-Length: 0\r\n\r\n"
+
+
+@dataclass(frozen=True)
+class Judging(Telling):
+    """Leaves these rows in a store that is there, and answers every request alike where there is none."""
+
+    answered: Answered = Answered(0, REPLY, "")
+    judged: dict = field(default_factory=lambda: ROWS)
+
+    def over(self, store: Path, requests: bytes) -> Answered:
+        if store.exists():
+            store.unlink()
+            tables.write_store(store, SCHEMA, self.judged)
+        return super().over(store, requests)
+
+    def without_store(self, requests: bytes) -> Answered:
+        return Answered(0, REPLY * len(requests_in(requests)), "")
+
+
+class ThatIsNotJudged(InAFolder):
+    def fault(self, **what) -> str | None:
+        on = ground.ground(Judging(Path(), Path(), **what), self.folder)
+        return foreign.judges_all_that_is_ready(on, SCHEMA)
+
+    def test_all_that_is_judged_passes(self) -> None:
+        self.assertIsNone(self.fault())
+
+    def test_what_is_not_judged_is_reported(self) -> None:
+        received = [(*row[:3], 0, 0, 0) for row in ROWS["received"]]
+        for judged in (ROWS | {"received": received, "version2": []}, ROWS | {"version2": ROWS["version2"][:-1]}):
+            self.folder = self.new_folder()
+            self.assertIn("aren't those", self.fault(judged=judged))
+
+    def test_another_answer_is_reported(self) -> None:
+        self.assertIn("differs", self.fault(answered=Answered(0, foreign.REFUSED, "")))
 
 
 class ThatAreWritten(InAFolder):

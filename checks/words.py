@@ -12,16 +12,17 @@ from checks.sessions import EXTRACT, INIT, Session, Step
 
 STORE = sessions.STORE
 UNEXPECTED = "error: unexpected argument "
+INVALID = "error: invalid value "
 MISSING = "error: the following required arguments were not provided:\n"
 
 
 @dataclass(frozen=True)
 class Told:
-    """Words that ask for nothing that there is, or for help, and the text with which the answer begins."""
+    """Words that ask for nothing that there is, that name no register that there is, or that ask for help, and the text with which the answer begins."""
 
     words: str
     begins: str
-    status: int  # 2: usage, told on standard error; 0: help, told on standard output
+    status: int  # 2: usage, 3: a fault, both told on standard error; 0: help, told on standard output
     shows: str = ""  # a part of the answer
     most: int | None = None  # lines
 
@@ -64,6 +65,11 @@ TOLD = (
     usage(f"extend {STORE}", f"{MISSING}  --grown <GROWN>\n"),
     usage("migrate --store s.db", f"{MISSING}  --register <REGISTER>\n"),
     usage(f"migrate {STORE} 1001", f"{UNEXPECTED}'1001'"),
+    usage(f"serve {STORE} --port 0", f"{MISSING}  --connections <CONNECTIONS>\n"),
+    usage(f"serve {STORE} --port x --connections 1", f"{INVALID}'x' for '--port <PORT>'"),
+    usage(f"serve {STORE} --port 65536 --connections 1", f"{INVALID}'65536' for '--port <PORT>'"),
+    usage(f"serve {STORE} --port 0 --connections 1000001", f"{INVALID}'1000001' for '--connections <CONNECTIONS>'"),
+    Told(f"serve {STORE} --port 65535 --connections 1000000", "gazhub: Unreadable\n", 3, most=1),
     Told("--help", "A hub for street and property gazetteers\n\nUsage: gazhub [COMMAND]\n", 0, most=24),
     Told(
         "help submit",
@@ -121,7 +127,7 @@ def fault_of(program: Path, told: Told, deadline: float = DEADLINE) -> str | Non
 
 
 def run_all(program: Path) -> list[tuple[str, str | None]]:
-    """What is told of usage and of help, and the words that stay texts, with what is wrong with each."""
+    """What is told of usage, of words that are taken and of help, and the words that stay texts, with what is wrong with each."""
     path = program.resolve()
     ran = [(told.words, fault_of(path, told)) for told in TOLD]
     return [*ran, (AS_WRITTEN.name, sessions.fault_of(path, AS_WRITTEN))]

@@ -18,6 +18,9 @@ const FILES: &[File<'static>] = &[
     (PROPERTY_500_RELEASED, 1001, 1),
     (PROPERTY_500_ADOPTED, 1002, 1),
     (NOTHING, 1001, 1),
+    (RESTS_ALONE, 1002, 1),
+    (RESTS_ON_1002, 1003, 1),
+    (WRITTEN_STRICTLY, 1001, 1),
 ];
 
 // Whose file it is, and which volume.
@@ -58,6 +61,13 @@ fn written_back(rt: HostRuntime) -> Result<(), Fail> {
         let once = rewritten(rt.alloc(), *file)?;
         holds(&rt, once.as_slice() == file.0, "as it was read");
     }
+    Ok(())
+}
+
+#[test]
+fn written_anew(rt: HostRuntime) -> Result<(), Fail> {
+    let once = rewritten(rt.alloc(), (WRITTEN_LOOSELY, 1001, 1))?;
+    holds(&rt, once.as_slice() == WRITTEN_STRICTLY, "as it is written");
     Ok(())
 }
 
