@@ -1,5 +1,6 @@
 -- What a store stands for that was made, or opened, and what a stop leaves of it.
 use Rattle.std.proofs.Common.{◌≡◌, ◌∙◌, inl, inr, ℕ, List, ap, arith, refl, subst, sym}
+use Rattle.sqlite.specs.Effect.{Database}
 use Rattle.sqlite.specs.Held.{Held, state}
 use Rattle.sqlite.specs.State.{HasCleanDisk, State, Survives}
 use Rattle.sqlite_trees.specs.declared.store.Store.{Ghosts}
@@ -9,6 +10,7 @@ use Rattle.gaz_views.specs.View.{empty_view}
 use Rattle.gaz_keeper.specs.Keeper.{Content, after_stop}
 use Rattle.gaz_tables.specs.Creating.{HasRoom}
 use Rattle.gaz_kept.specs.Contents.{content_in}
+use Rattle.gaz_kept.specs.Kept.{IsKept}
 use Rattle.gaz_kept.proofs.SameTrees.{same_content}
 use Rattle.gaz_calls.specs.Seen.{IsUnharmed}
 use Rattle.gaz_store.proofs.Whole.{kept_of}
@@ -16,12 +18,18 @@ use Rattle.gaz_store.specs.Opened.{IsMade}
 use Rattle.gaz_store.specs.Store.{seen_in}
 use Rattle.gaz_store.specs.declared.store.Store.{Store}
 use Rattle.gaz_steps.specs.Hubs.{MayHave, door_of, state_of}
-use Rattle.gaz_steps.specs.Step.{new_hub}
+use Rattle.gaz_steps.specs.Step.{HubState, new_hub}
 use Rattle.gaz_steps.proofs.Headline.{may_begin}
+use Rattle.gaz_hub.proofs.Advancing.{may_keep}
 use Rattle.gaz_stored.specs.Runs.{StandForRun, hub_in}
 use Rattle.gaz_stored.specs.Stopping.{LeavesItself}
 use Rattle.gaz_stored.specs.Using.{IsOpenedFrom}
 use Rattle.gaz_stored.proofs.Going.{Begun, LeavesHub}
+
+-- tables of a store that stand for a hub with a content that may be had stand for a partial run
+pub stand_alike : (register : RegisterValue) (was : Content) (new : Database) → MayHave (door_of register) was → IsKept new → hub_in new ≡ state_of was → StandForRun register new
+stand_alike register was new may kept same =
+    record { kept = kept; may = may_keep (door_of register) was (content_in new empty_view) (ap (λ (h : HubState). h.received) same) (ap (λ (h : HubState). h.board) same) may }
 
 -- a disk that is clean after a call was before it
 pub clean_before : {S : Type 0} (g : Ghosts S) (before after : Held S) → Survives (state g before) (state g after) (λ _. ⊥) → HasCleanDisk (state g after) → HasCleanDisk (state g before)
@@ -49,7 +57,7 @@ module _ {S N : Type 0} {g : Ghosts S} (register : RegisterValue) (first : Store
     pub begun_opened : IsUnharmed mid → Begun register first (hub_in old.now)
     begun_opened is_fine =
         let same = from.opened.content is_fine stood.kept in
-        let may : MayHave (door_of register) (seen_in text first).content = subst (MayHave (door_of register)) (sym same) (record { known = stood.known; partial = stood.partial }) in
+        let may : MayHave (door_of register) (seen_in text first).content = subst (MayHave (door_of register)) (sym same) stood.may in
         ((from.opened.stands is_fine stood.kept, may), ap state_of same)
 
     module _ (itself : LeavesItself old) where
@@ -66,5 +74,5 @@ module _ {S N : Type 0} {g : Ghosts S} (register : RegisterValue) (first : Store
         only = only_itself;
         same = λ fine. ap after_stop (from.opened.content fine stood.kept);
         whole = λ clean. from.opened.whole (λ trees early left. kept_of text old.now trees (itself trees early left) stood.kept (from.judged clean stood.kept.tables));
-        known = stood.known;
+        known = stood.may.known;
       }

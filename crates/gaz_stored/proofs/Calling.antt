@@ -53,8 +53,10 @@ grown_stands register grown db more stood =
     let h = hub_in db in
     record {
       kept = stood.kept;
-      known = growth_keeps_holds.known register grown h.received more stood.known;
-      partial = growth_keeps_holds.partial register grown h.received h.board more stood.known stood.partial;
+      may = record {
+        known = growth_keeps_holds.known register grown h.received more stood.may.known;
+        partial = growth_keeps_holds.partial register grown h.received h.board more stood.may.known stood.may.partial;
+      };
     }
 
 runs_then : (register : RegisterValue) (old mid new : HubState) (some more : List Period) → GrownRun register old some mid → GrownRun (last_register register some) mid more new → GrownRun register old (some ++ more) new
@@ -233,7 +235,7 @@ module _ {S : Type 0} (g : Ghosts S) where
   grown_on : (register : RegisterValue) (db found : Database) (periods : List Period) → IsStoreOf register db → GrownRun register (hub_in db) periods (hub_in found)
       → IsStoreOf (last_register register periods) found → GoesOnGrown register (hub_in db) periods found
   grown_on register db found periods store run last =
-      record { run = run; abides = every_grown_run_holds register (hub_in db) (hub_in found) periods store.stands.known store.stands.partial run; store = last }
+      record { run = run; abides = every_grown_run_holds register (hub_in db) (hub_in found) periods store.stands.may.known store.stands.may.partial run; store = last }
 
   pub calls_are_one : CallsAreOne g
   calls_are_one register db [] is store follow = record { periods = []; periods_are = refl; goes_on = grown_on register db db [] store refl store; stay = tt }

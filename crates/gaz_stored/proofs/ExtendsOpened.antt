@@ -6,13 +6,14 @@ use Rattle.sqlite.specs.Held.{Held, state}
 use Rattle.sqlite.specs.State.{HasCleanDisk, State}
 use Rattle.sqlite_trees.specs.declared.store.Store.{Ghosts}
 use Rattle.gaz_register.specs.Growing.{Extends, growth_of}
-use Rattle.gaz_register.specs.Registers.{RegisterValue, blocks_of}
+use Rattle.gaz_register.specs.Registers.{RegisterValue}
 use Rattle.gaz_register.specs.declared.growth.GrowFault.{GrowFault}
 use Rattle.gaz_register.specs.Texts.{register_text}
 use Rattle.gaz_tables.specs.Schema.{meta}
 use Rattle.gaz_tables.specs.Stores.{HasTables}
 use Rattle.gaz_tables.specs.Tables.{rows_of}
 use Rattle.gaz_views.specs.View.{empty_view}
+use Rattle.gaz_kept.specs.Contents.{content_in}
 use Rattle.gaz_kept.specs.Kept.{IsKept}
 use Rattle.gaz_kept.specs.Opening.{IsOf}
 use Rattle.gaz_kept.specs.Rewriting.{Registers}
@@ -27,25 +28,16 @@ use Rattle.gaz_store.specs.Extending.{KeepsContent, WritesRegister}
 use Rattle.gaz_store.specs.Store.{seen_in}
 use Rattle.gaz_store.specs.declared.store.Store.{Store}
 use Rattle.gaz_kept.proofs.SameTrees.{same_content, same_kept, same_rows}
-use Rattle.gaz_steps.specs.Hubs.{AreKnown, door_of, state_of}
-use Rattle.gaz_steps.specs.Standing.{IsPartial}
-use Rattle.gaz_steps.specs.Step.{HubState}
+use Rattle.gaz_steps.specs.Hubs.{state_of}
 use Rattle.gaz_stored.specs.Extending.{ExtendsOpened, StandsStill, StopsBetween}
 use Rattle.gaz_stored.specs.Runs.{StandForRun, hub_in}
 use Rattle.gaz_stored.specs.Stopping.{LeavesItself, MayBeLeft}
 use Rattle.gaz_stored.specs.Using.{IsOpenedFrom}
-use Rattle.gaz_stored.proofs.Beginning.{clean_before}
+use Rattle.gaz_stored.proofs.Beginning.{clean_before, stand_alike}
 
 -- a store's tables that stand for the same hub stand for a partial run as before
 pub still : (register : RegisterValue) (old new : Database) → StandForRun register old → IsKept new → hub_in new ≡ hub_in old → StandsStill register old new
-still register old new stood kept same = record {
-  hub = same;
-  stands = record {
-    kept = kept;
-    known = subst (λ (h : HubState). AreKnown (door_of register) h.received) (sym same) stood.known;
-    partial = subst (λ (h : HubState). IsPartial (blocks_of register) h.received h.board) (sym same) stood.partial;
-  };
-}
+still register old new stood kept same = record { hub = same; stands = stand_alike register (content_in old empty_view) new stood.may kept same }
 
 -- and so do those with the same trees
 pub same_trees : (register : RegisterValue) (old new : Database) → StandForRun register old → IsDatabase new → new.trees ≡ old.trees → StandsStill register old new

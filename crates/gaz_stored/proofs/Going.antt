@@ -73,7 +73,7 @@ module _ {S N : Type 0} {g : Ghosts S} (register : RegisterValue) (first last : 
       let run = subst (λ h. Run d h commands responses (hub_in (state g last.tables.conn).now)) begun.1 (runs.run begun.0 fine) in
       let partial = subst (λ (h : HubState). IsPartial (blocks_of register) h.received h.board) begun.1 begun.0.1.partial in
       let went = went_by register hub commands responses (hub_in (state g last.tables.conn).now) partial run in
-      record { went = went; store = record { stands = record { kept = stands.0.tables.kept; known = stands.1.known; partial = went.abides.partial }; whose = stands.0.tables.whose } }
+      record { went = went; store = record { stands = record { kept = stands.0.tables.kept; may = record { known = stands.1.known; partial = went.abides.partial } }; whose = stands.0.tables.whose } }
 
   -- what is declined leads nowhere, and all else was told of a store that was open
   pub went_on : IsPartly → (IsUnharmed (state g first.tables.conn) → Begins) → MakesRun → HasCleanDisk (state g last.tables.conn) → WentOn register hub commands responses
@@ -119,8 +119,10 @@ module _ {S N : Type 0} {g : Ghosts S} (register : RegisterValue) (first last : 
           store = record {
             stands = record {
               kept = it.kept;
-              known = run_known d hub (state_of k) far.asked far.said far.run leaves.known;
-              partial = (every_run_from_holds d hub (state_of k) far.asked far.said partial far.run).partial;
+              may = record {
+                known = run_known d hub (state_of k) far.asked far.said far.run leaves.known;
+                partial = (every_run_from_holds d hub (state_of k) far.asked far.said partial far.run).partial;
+              };
             };
             whose = it.whose;
           };

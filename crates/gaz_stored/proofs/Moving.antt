@@ -1,18 +1,19 @@
 -- A store that is made of the tables of schema 1 stands for the hub that they stood for.
-use Rattle.std.proofs.Common.{◌≡◌, ◌⊎◌, inl, inr, Bool, true, false, Result, Ok, Err, arith, refl, sym, ap, subst}
+use Rattle.std.proofs.Common.{◌≡◌, ◌⊎◌, inl, inr, Bool, true, false, Result, Ok, Err, arith, refl, ap, subst}
 use Rattle.std.proofs.lemmas.Bool.{cases_Bool}
 use Rattle.std.specs.declared.marker.Brand.{Brand}
 use Rattle.sqlite.specs.Effect.{Database}
 use Rattle.sqlite.specs.Held.{Held, state}
 use Rattle.sqlite.specs.State.{HasCleanDisk}
 use Rattle.sqlite_trees.specs.declared.store.Store.{Ghosts}
-use Rattle.gaz_register.specs.Registers.{RegisterValue, blocks_of}
+use Rattle.gaz_register.specs.Registers.{RegisterValue}
 use Rattle.gaz_register.specs.Texts.{register_text}
 use Rattle.gaz_tables.specs.Schema.{meta}
 use Rattle.gaz_tables.specs.Tables.{rows_of}
 use Rattle.gaz_views.specs.View.{empty_view}
 use Rattle.gaz_kept.specs.Contents.{content_in}
 use Rattle.gaz_kept.specs.Kept.{IsKept}
+use Rattle.gaz_kept.specs.Migrated.{first_content_in}
 use Rattle.gaz_kept.specs.Opening.{IsOf, Tells, Untouched, has_all}
 use Rattle.gaz_kept.specs.OpeningFirst.{MayMove, TellsFirst, has_first}
 use Rattle.gaz_kept.specs.declared.refusal.StoreRefusal.{StoreRefusal}
@@ -20,9 +21,7 @@ use Rattle.gaz_kept.specs.declared.refusal.StoreRefusal.TheVariants.{BadSchema}
 use Rattle.gaz_kept.proofs.Migrated.{migration_stands}
 use Rattle.gaz_kept.proofs.Moved.{clean_before}
 use Rattle.gaz_calls.specs.Seen.{IsUnharmed, kept_by_trees}
-use Rattle.gaz_steps.specs.Hubs.{AreKnown, door_of, state_of}
-use Rattle.gaz_steps.specs.Standing.{IsPartial}
-use Rattle.gaz_steps.specs.Step.{HubState}
+use Rattle.gaz_steps.specs.Hubs.{state_of}
 use Rattle.gaz_store.specs.Migrating.{IsMoved}
 use Rattle.gaz_store.specs.Store.{seen_in}
 use Rattle.gaz_store.specs.declared.store.Store.{Store}
@@ -30,21 +29,13 @@ use Rattle.gaz_stored.specs.Migrating.{FirstStandForRun, MigratedStands, Migrate
 use Rattle.gaz_stored.specs.Runs.{hub_in}
 use Rattle.gaz_stored.specs.Stopping.{MayBeLeft}
 use Rattle.gaz_stored.specs.declared.migrating.Migration.TheVariants.{Current}
+use Rattle.gaz_stored.proofs.Beginning.{stand_alike}
 use Rattle.gaz_stored.proofs.Using.{not_so}
 
 -- a store of the same hub does
 stands_moved : (register : RegisterValue) (old new : Database) → FirstStandForRun register old → hub_in new ≡ first_hub_in old → IsKept new → IsOf (register_text register) (rows_of new meta) → StandsMoved register old new
-stands_moved register old new was hub kept whose = record {
-  hub = hub;
-  store = record {
-    stands = record {
-      kept = kept;
-      known = subst (λ (h : HubState). AreKnown (door_of register) h.received) (sym hub) was.known;
-      partial = subst (λ (h : HubState). IsPartial (blocks_of register) h.received h.board) (sym hub) was.partial;
-    };
-    whose = whose;
-  };
-}
+stands_moved register old new was hub kept whose =
+    record { hub = hub; store = record { stands = stand_alike register (first_content_in old empty_view) new was.may kept hub; whose = whose } }
 
 pub migrated_stands : MigratedStands
 migrated_stands register old new was mine moves =

@@ -15,7 +15,7 @@ module _ {K : Type 0} (seen : K → Seen) (most : ℕ) where
   -- what is asked and said at a connection is a run
   runs_at : (mid new : Hub K) (more : List Meeting) (turn : TalksOrRests seen most mid new more) → Runs (door_of mid.register) (hub_seen seen mid) (hub_seen seen new) (commands_at turn) (responses_at turn)
   runs_at mid new more (Talked talk) = talk.conversation.runs
-  runs_at mid new more (Rested rest) = subst (λ h. Runs (door_of mid.register) (hub_seen seen mid) (hub_seen seen h) [] []) (sym rest.still) (runs_none (door_of mid.register) (hub_seen seen mid))
+  runs_at mid new more (Rested still missed) = subst (λ h. Runs (door_of mid.register) (hub_seen seen mid) (hub_seen seen h) [] []) (sym still) (runs_none (door_of mid.register) (hub_seen seen mid))
 
   pub one_more : (n : ℕ) (old mid new : Hub K) → mid.register ≡ old.register → (met more : List Meeting) → Serves seen most n old mid met → TalksOrRests seen most mid new more
       → Serves seen most (n + 1) old new (met ++ more)
@@ -30,4 +30,4 @@ module _ {K : Type 0} (seen : K → Seen) (most : ℕ) where
 
   pub same_register : (mid new : Hub K) (more : List Meeting) → TalksOrRests seen most mid new more → new.register ≡ mid.register
   same_register mid new more (Talked talk) = talk.register
-  same_register mid new more (Rested rest) = ap (λ (h : Hub K). h.register) rest.still
+  same_register mid new more (Rested still missed) = ap (λ (h : Hub K). h.register) still

@@ -64,9 +64,9 @@ module _ {S : Type 0} {g : Ghosts S} (register : RegisterValue) (before after : 
         opened = from;
         harm = harm;
         trust = trust;
-        went_on = λ clean stood. went_on register first last hub commands responses stood.partial (begun stood) (runs stood) clean;
+        went_on = λ clean stood. went_on register first last hub commands responses stood.may.partial (begun stood) (runs stood) clean;
         goes_on = λ fine stood. goes_on register first last hub commands responses (begun stood (harm fine)) (runs stood) fine;
-        stops = λ stood itself. finds register first last hub commands responses stood.partial (begun stood) (leaves_opened register first before from stood itself) (runs stood);
+        stops = λ stood itself. finds register first last hub commands responses stood.may.partial (begun stood) (leaves_opened register first before from stood itself) (runs stood);
       })
 
   module _ (way : Way (Store S Brand g)) (given : Store S Brand g) (it : UsedAs Brand (register_text register) register way given after) where

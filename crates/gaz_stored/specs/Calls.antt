@@ -76,22 +76,17 @@ module _ {S : Type 0} (g : Ghosts S) where
   periods_in (Used register first commands responses is uses) =
       period register commands responses ∷ []
   periods_in (Grew register grown (Ok done) is are extends) = period grown [] [] ∷ []
-  periods_in (Grew register grown (Err why) is are extends) = []
-  periods_in (Moved register told migrates) = []
-  periods_in (Refused refused) = []
+  periods_in _ = []
 
   -- what is left of that where the call was cut off: the first of what was asked and said, and one
-  -- that was cut off; that the register has grown, where that was told, else that or nothing
+  -- that was cut off; where an Err was told of a growth, that it has grown or nothing; else all
   abbrev pub AreLeftOf : {before after : Held S} → CameTo before after → List Period → Type 0
   AreLeftOf (Used register first commands responses is uses) periods =
       (asked : List Command) × (said : List Response)
       × IsCutTo commands responses asked said × (periods ≡ period register asked said ∷ [])
-  AreLeftOf (Grew register grown (Ok done) is are extends) periods =
-      periods ≡ period grown [] [] ∷ []
   AreLeftOf (Grew register grown (Err why) is are extends) periods =
       (periods ≡ []) ⊎ (periods ≡ period grown [] [] ∷ [])
-  AreLeftOf (Moved register told migrates) periods = periods ≡ []
-  AreLeftOf (Refused refused) periods = periods ≡ []
+  AreLeftOf came periods = periods ≡ periods_in came
 
   abbrev pub ArePeriodsOf : {before after : Held S} {found : Database} → CameTo before after
       → IsFoundAfter before after found → List Period → Type 0

@@ -15,7 +15,7 @@ use Rattle.gaz_kept.specs.declared.refusal.StoreRefusal.TheVariants.{BadSchema, 
 use Rattle.gaz_kept.specs.declared.refusal.StoreRefusal.TheVariants.{OtherRegister}
 use Rattle.gaz_steps.specs.Step.{Command, HubState, Submit}
 use Rattle.gaz_commands.specs.declared.said.Said.{Said}
-use Rattle.gaz_stored.specs.Announcing.{IsAnnounced, SaysWhere, listening}
+use Rattle.gaz_stored.specs.Announcing.{IsAnnounced, listening}
 use Rattle.gaz_stored.specs.Meetings.{Missed}
 use Rattle.gaz_stored.specs.Reopening.{OpensOrFails}
 use Rattle.gaz_stored.specs.Runs.{hub_in}
@@ -67,8 +67,9 @@ pub record WorkedWays : Type 0 where
 -- what is written before connections are answered, by a writer that held nothing
 pub record WorkedAnnouncing : Type 0 where
   pub line : listening 8080 ≡ codes "listening 127.0.0.1:8080\n"
-  pub says : SaysWhere (Some 8080) (Some []) (Some (codes "listening 127.0.0.1:8080\n"))
-  pub nowhere : ¬ SaysWhere None (Some []) (Some (listening 8080))
+  pub says : IsAnnounced {N = ℕ} (Some 8080) (Some [])
+      (Some (codes "listening 127.0.0.1:8080\n")) (Ok (Ok 1))
+  pub nowhere : ¬ IsAnnounced {N = ℕ} None (Some []) (Some (listening 8080)) (Ok (Ok 1))
   pub no_port : IsAnnounced {N = ℕ} None (Some []) (Some []) (Ok (Err NoPort))
   -- nobody is answered who wasn't told where, and a port that was had is told
   pub not_silent : ¬ IsAnnounced {N = ℕ} (Some 8080) (Some []) (Some []) (Ok (Ok 1))

@@ -1,11 +1,11 @@
 -- A store of schema 1 behind a connection, and the store that is made of it.
-use Rattle.std.specs.Prelude.{◌≡◌, ◌⊎◌, Bool, true, false, Result, Ok, Err, IfErr}
+use Rattle.std.specs.Prelude.{◌≡◌, ◌⊎◌, Bool, true, false, Ok, Err}
 use Rattle.sqlite.specs.Effect.{Database}
 use Rattle.sqlite.specs.Held.{Held, state}
 use Rattle.sqlite.specs.State.{HasCleanDisk}
 use Rattle.sqlite_trees.specs.Tree.{Trees}
 use Rattle.sqlite_trees.specs.declared.store.Store.{Ghosts}
-use Rattle.gaz_register.specs.Registers.{RegisterValue, blocks_of}
+use Rattle.gaz_register.specs.Registers.{RegisterValue}
 use Rattle.gaz_register.specs.Texts.{register_text}
 use Rattle.gaz_views.specs.View.{empty_view}
 use Rattle.gaz_tables.specs.Migrating.{HasFirstTables, Migrates}
@@ -16,8 +16,7 @@ use Rattle.gaz_kept.specs.Opening.{Judges, Tells, Untouched, has_all, schema_num
 use Rattle.gaz_kept.specs.OpeningFirst.{IsOfFirst, JudgesFirst, TellsFirst, has_first}
 use Rattle.gaz_kept.specs.declared.refusal.StoreRefusal.{StoreRefusal}
 use Rattle.gaz_kept.specs.declared.refusal.StoreRefusal.TheVariants.{BadSchema}
-use Rattle.gaz_steps.specs.Hubs.{AreKnown, door_of, state_of}
-use Rattle.gaz_steps.specs.Standing.{IsPartial}
+use Rattle.gaz_steps.specs.Hubs.{MayHave, door_of, state_of}
 use Rattle.gaz_steps.specs.Step.{HubState}
 use Rattle.gaz_calls.specs.Seen.{IsUnharmed}
 use Rattle.gaz_store.specs.Opened.{IsRefused}
@@ -34,8 +33,7 @@ first_hub_in db = state_of (first_content_in db empty_view)
 -- known
 pub record FirstStandForRun (register : RegisterValue) (db : Database) : Type 0 where
   pub kept : IsFirstKept db
-  pub known : AreKnown (door_of register) (first_hub_in db).received
-  pub partial : IsPartial (blocks_of register) (first_hub_in db).received (first_hub_in db).board
+  pub may : MayHave (door_of register) (first_content_in db empty_view)
 
 -- the tables are a store's of this register, and stand for the hub that those of schema 1 stood for
 pub record StandsMoved (register : RegisterValue) (old new : Database) : Type 0 where
@@ -96,14 +94,12 @@ module _ {S : Type 0} (g : Ghosts S) (register : RegisterValue) (before after : 
     pub stops : IsUnharmed (state g after) → FirstStandForRun register old
         → (db : Database) → MayBeLeft (state g after) db → StandsMoved register old db
 
-  -- why there is none of this register, where that is told: what is told of the rows of `meta`, of
-  -- either schema; the database holds what it held
-  pub record LacksBoth {T : Type 0} (told : Result T StoreRefusal) : Type 0 where
-    pub lacking : has_all old.schema ≡ false → has_first old.schema ≡ false → told ≡ Err BadSchema
-    pub rows : IfErr told (λ why. Tells g before after (Err why) (register_text register))
-    pub judged : IfErr told (λ why. Judges g before after (Err why) (register_text register))
-    pub rows_first : IfErr told (λ why.
-        TellsFirst g before after (Err why) (register_text register))
-    pub judged_first : IfErr told (λ why.
-        JudgesFirst g before after (Err why) (register_text register))
-    pub refused : IfErr told (λ why. IsRefused g before after)
+  -- there is none of this register, for this reason: what is told of the rows of `meta`, of either
+  -- schema; the database holds what it held
+  pub record LacksBoth (why : StoreRefusal) : Type 0 where
+    pub lacking : has_all old.schema ≡ false → has_first old.schema ≡ false → why ≡ BadSchema
+    pub rows : Tells g before after (Err why) (register_text register)
+    pub judged : Judges g before after (Err why) (register_text register)
+    pub rows_first : TellsFirst g before after (Err why) (register_text register)
+    pub judged_first : JudgesFirst g before after (Err why) (register_text register)
+    pub refused : IsRefused g before after

@@ -1,7 +1,7 @@
 -- What the tables of a database stand for, before a conversation and after it.
 use Rattle.std.specs.Prelude.{List}
 use Rattle.sqlite.specs.Effect.{Database}
-use Rattle.gaz_register.specs.Registers.{RegisterValue, blocks_of}
+use Rattle.gaz_register.specs.Registers.{RegisterValue}
 use Rattle.gaz_register.specs.Texts.{register_text}
 use Rattle.gaz_tables.specs.Schema.{meta}
 use Rattle.gaz_tables.specs.Tables.{rows_of}
@@ -10,9 +10,8 @@ use Rattle.gaz_kept.specs.Contents.{content_in}
 use Rattle.gaz_kept.specs.Kept.{IsKept}
 use Rattle.gaz_kept.specs.Opening.{IsOf}
 use Rattle.gaz_steps.specs.Answers.{AllReadOff}
-use Rattle.gaz_steps.specs.Hubs.{AreKnown, door_of, state_of}
+use Rattle.gaz_steps.specs.Hubs.{MayHave, door_of, state_of}
 use Rattle.gaz_steps.specs.Runs.{AbidesFrom, Run}
-use Rattle.gaz_steps.specs.Standing.{IsPartial}
 use Rattle.gaz_steps.specs.Step.{Command, HubState, Response}
 
 -- the hub that the tables stand for: what was received, and how far it is judged
@@ -22,8 +21,7 @@ hub_in db = state_of (content_in db empty_view)
 -- the tables are a store's, and stand for a partial run of files of custodians that are known
 pub record StandForRun (register : RegisterValue) (db : Database) : Type 0 where
   pub kept : IsKept db
-  pub known : AreKnown (door_of register) (hub_in db).received
-  pub partial : IsPartial (blocks_of register) (hub_in db).received (hub_in db).board
+  pub may : MayHave (door_of register) (content_in db empty_view)
 
 -- they do, and are of this register
 pub record IsStoreOf (register : RegisterValue) (db : Database) : Type 0 where

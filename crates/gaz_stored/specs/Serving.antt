@@ -27,28 +27,23 @@ pub record Talks {K : Type 0} (seen : K → Seen) (most : ℕ) (old new : Hub K)
   pub register : new.register ≡ old.register
   pub met_is : met ≡ met_through through ended
 
--- none could be had, and it stayed as it was
-pub record Rests {K : Type 0} (old new : Hub K) (met : List Meeting) : Type 0 where
-  pub still : new ≡ old
-  pub met_is : met ≡ Missed ∷ []
-
--- one or the other
+-- one came so; or none could be had, and the hub stayed as it was
 pub data TalksOrRests {K : Type 0} (seen : K → Seen) (most : ℕ) (old new : Hub K)
     (met : List Meeting) : Type 0 where
   Talked : Talks seen most old new met → TalksOrRests seen most old new met
-  Rested : Rests old new met → TalksOrRests seen most old new met
+  Rested : new ≡ old → met ≡ Missed ∷ [] → TalksOrRests seen most old new met
 
 -- what it was asked meanwhile
 abbrev pub commands_at : {K : Type 0} {seen : K → Seen} {most : ℕ} {old new : Hub K}
     {met : List Meeting} → TalksOrRests seen most old new met → List Command
 commands_at (Talked talk) = commands_of talk.conversation.exchanges
-commands_at (Rested rest) = []
+commands_at (Rested still missed) = []
 
 -- what it said meanwhile
 abbrev pub responses_at : {K : Type 0} {seen : K → Seen} {most : ℕ} {old new : Hub K}
     {met : List Meeting} → TalksOrRests seen most old new met → List Response
 responses_at (Talked talk) = responses_of talk.conversation.exchanges
-responses_at (Rested rest) = []
+responses_at (Rested still missed) = []
 
 -- so many connections, one after another, led from one hub to another; this came of them, and this
 -- the hub was asked and said

@@ -1,6 +1,6 @@
 -- A hub that is used over the store behind a connection, from the connection that is given to the
 -- one that is handed back.
-use Rattle.std.specs.Prelude.{◌≡◌, false, true, ℕ, List, Result, Ok, Err, IfErr}
+use Rattle.std.specs.Prelude.{◌≡◌, false, true, ℕ, List, Ok, Err}
 use Rattle.std.specs.declared.marker.Brand.{Brand}
 use Rattle.sqlite.specs.Held.{Held, state}
 use Rattle.sqlite.specs.State.{HasCleanDisk}
@@ -83,13 +83,12 @@ module _ {S : Type 0} (g : Ghosts S) (register : RegisterValue) where
     pub back : last.tables.conn ≡ after
     pub uses : Uses first before after commands responses
 
-  -- why there is no store of this register, where that is told; the database holds what it held
-  pub record LacksStore {T : Type 0} (before after : Held S) (told : Result T StoreRefusal)
-      : Type 0 where
+  -- there is no store of this register, for this reason; the database holds what it held
+  pub record LacksStore (why : StoreRefusal) (before after : Held S) : Type 0 where
     -- a table or a column is missing
-    pub lacking : has_all (state g before).now.schema ≡ false → told ≡ Err BadSchema
+    pub lacking : has_all (state g before).now.schema ≡ false → why ≡ BadSchema
     -- what is told of the rows of `meta`
-    pub rows : IfErr told (λ why. Tells g before after (Err why) (register_text register))
-    pub judged : IfErr told (λ why. Judges g before after (Err why) (register_text register))
-    pub refused : IfErr told (λ why. IsRefused g before after)
-    pub untouched : IfErr told (λ why. Untouched g before after)
+    pub rows : Tells g before after (Err why) (register_text register)
+    pub judged : Judges g before after (Err why) (register_text register)
+    pub refused : IsRefused g before after
+    pub untouched : Untouched g before after

@@ -64,7 +64,7 @@ pub fn converse_opened<S: Alter + Drop, R: Source, W: Sink>(
     ensures failed { IfOk result.told (StopsByFault R.failed W.failed r.new w.new) }
     ensures unheard { IfErr result.told (λ _. IsUnheard
         (transfer R.remaining W.contents r.old r.new w.old w.new)) }
-    ensures lacks { LacksStore S.Store register conn result.conn result.told }
+    ensures lacks { IfErr result.told (λ why. LacksStore S.Store register why conn result.conn) }
 {
     match Store::open(alloc, seed, conn, &register) {
         Ok(store) => {

@@ -1,5 +1,5 @@
 //! One call over the store behind a connection, which is handed back.
-ghost use Rattle.std.specs.Prelude.{◌≡◌, false, IfOk, option_map};
+ghost use Rattle.std.specs.Prelude.{◌≡◌, false, IfErr, IfOk, option_map};
 ghost use Rattle.gaz_keeper.specs.Keeper.{IsNotOpen};
 ghost use Rattle.gaz_keeper.specs.Telling.{IsNotJudging};
 ghost use Rattle.gaz_store.specs.Store.{progress_of};
@@ -76,7 +76,7 @@ pub fn ask_opened<S: Alter + Drop>(
     ensures over { result.conn.in_transaction ≡ false }
     ensures asks { IfOk result.told (λ said. UsesOpened S.Store register (Asks register
         (asked call.entry (option_map (λ bytes. bytes.now) file.entry)) said) conn result.conn) }
-    ensures lacks { LacksStore S.Store register conn result.conn result.told }
+    ensures lacks { IfErr result.told (λ why. LacksStore S.Store register why conn result.conn) }
 {
     match Store::open(alloc, seed, conn, &register) {
         Ok(store) => {

@@ -110,7 +110,7 @@ pub fn serve_opened<S: Alter + Drop, P: Peers, W: Write>(
     ensures many { IfOk result.told (λ held.
         IfOk held (λ served. MayEndEarly wanted served result.at_hand)) }
     ensures announced { IsAnnounced port (W.contents w.old) (W.contents w.new) result.told }
-    ensures lacks { LacksStore S.Store register conn result.conn result.told }
+    ensures lacks { IfErr result.told (λ why. LacksStore S.Store register why conn result.conn) }
 {
     match Store::open(alloc, seed, conn, &register) {
         Ok(store) => {

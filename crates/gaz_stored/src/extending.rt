@@ -1,5 +1,5 @@
 //! A register that grows over the store behind a connection, which is handed back.
-ghost use Rattle.std.specs.Prelude.{◌≡◌, false, IfOk};
+ghost use Rattle.std.specs.Prelude.{◌≡◌, false, IfErr, IfOk};
 ghost use Rattle.gaz_stored.specs.Extending.{ExtendsOpened};
 ghost use Rattle.gaz_stored.specs.Using.{LacksStore};
 
@@ -27,7 +27,7 @@ pub fn extend_opened<S: Alter + Drop>(
     requires { conn.in_transaction ≡ false }
     ensures over { result.conn.in_transaction ≡ false }
     ensures extends { IfOk result.told (ExtendsOpened S.Store register grown conn result.conn) }
-    ensures lacks { LacksStore S.Store register conn result.conn result.told }
+    ensures lacks { IfErr result.told (λ why. LacksStore S.Store register why conn result.conn) }
 {
     match Store::<S, Brand>::open(alloc, seed, conn, &register) {
         Ok(store) => {

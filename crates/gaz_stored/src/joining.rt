@@ -1,22 +1,54 @@
 //! A hub over a mirror of a keeper.
-ghost use Rattle.std.specs.Prelude.{◌≡◌, None};
+ghost use Rattle.std.specs.Prelude.{◌≡◌, map, IfOk, None};
 ghost use Rattle.std.specs.Option.{ForSome};
-ghost use Rattle.gaz_keeper.specs.Keeper.{Idle};
+ghost use Rattle.gaz_keeper.specs.Keeper.{Idle, IsNotOpen};
 ghost use Rattle.gaz_keeper.specs.Telling.{IsNotJudging};
 ghost use Rattle.gaz_steps.specs.Hubs.{StandsFor, door_of};
 ghost use Rattle.gaz_mirror.specs.Mirrored.{seen_mirrored};
-ghost use Rattle.gaz_stored.specs.Filling.{CanBeMirrored, RestsBare};
+ghost use Rattle.gaz_loaded.specs.Files.{OnlyReads};
+ghost use Rattle.gaz_stored.specs.Filling.{CanBeMirrored, IsFilled, RestsBare, codes_of};
 ghost use Rattle.gaz_stored.specs.Ways.{BeginsOver};
 ghost use Rattle.gaz_shelf.specs.Mem.{seen_in};
 
-use crate::filling::fill;
 use gaz_hub::Hub;
+use gaz_ids::Code;
 use gaz_keeper::Inbox;
-use gaz_loaded::Listed;
+use gaz_loaded::{Listed, load};
 use gaz_mirror::Mirror;
 use gaz_register::Register;
 use gaz_shelf::{MemShelf, Seed};
-use std::alloc::Global;
+use std::alloc::{AllocError, Global};
+
+fn codes_of(alloc: Global, register: &Register) -> Result<Vec<Code>, AllocError>
+    ensures { IfOk result (λ codes. codes.items ≡ codes_of register.now) }
+{
+    register
+        .custodians()
+        .iter()
+        .map(|custodian| custodian.code())
+        .collect(alloc)
+}
+
+// A keeper in memory with all that a keeper lists of a register's custodians; none where memory or
+// that keeper failed, or where what it lists isn't in order.
+fn fill<L: Listed>(
+    alloc: Global,
+    seed: Seed,
+    register: &Register,
+    lower: &mut L,
+) -> Option<MemShelf>
+    requires { IsNotOpen (L.seen lower.old).progress }
+    ensures reads { OnlyReads (L.seen lower.old) (L.seen lower.new) }
+    ensures filled { ForSome result (IsFilled register.now (L.seen lower.old) (L.seen lower.new)) }
+{
+    let Ok(codes) = codes_of(alloc, register) else {
+        return None;
+    };
+    match load(alloc, seed, lower, &codes) {
+        Ok(shelf) => Some(shelf),
+        Err(_) => None,
+    }
+}
 
 // A mirror over both, or over the lower one alone.
 fn join<L: Inbox + Drop>(alloc: Global, lower: L, upper: Option<MemShelf>) -> Mirror<L, MemShelf>

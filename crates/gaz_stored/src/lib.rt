@@ -7,7 +7,6 @@ mod asking;
 mod attending;
 mod connections;
 mod extending;
-mod filling;
 mod handing;
 mod joining;
 mod keepers;

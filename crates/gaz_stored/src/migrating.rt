@@ -1,6 +1,6 @@
 //! The store of schema 1 behind a connection becomes one of schema 2; the connection is handed
 //! back.
-ghost use Rattle.std.specs.Prelude.{◌≡◌, false, IfOk};
+ghost use Rattle.std.specs.Prelude.{◌≡◌, false, IfErr, IfOk};
 ghost use Rattle.gaz_stored.specs.Migrating.{LacksBoth, MigratesOpened, StopsMoving, told_of};
 
 use crate::handing::Returned;
@@ -46,7 +46,7 @@ pub fn migrate_opened<S: Alter + Drop>(
     requires { conn.in_transaction ≡ false }
     ensures over { result.conn.in_transaction ≡ false }
     ensures migrates { IfOk result.told (MigratesOpened S.Store register.now conn result.conn) }
-    ensures lacks { LacksBoth S.Store register.now conn result.conn result.told }
+    ensures lacks { IfErr result.told (LacksBoth S.Store register.now conn result.conn) }
     ensures stops { StopsMoving S.Store register.now conn result.conn }
 {
     let first = is_first(&conn);

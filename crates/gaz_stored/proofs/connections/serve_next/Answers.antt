@@ -11,7 +11,7 @@ returns-in_default g c = record {
   met = Missed ∷ [];
   are_met = (c.accept.new.self, c.in_default.ensures, refl);
   whole = λ reads writes. tt;
-  then = Rested (record { still = refl; met_is = refl });
+  then = Rested refl refl;
 }
 
 pub returns : goal.returns

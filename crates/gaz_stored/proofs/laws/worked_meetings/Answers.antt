@@ -10,7 +10,7 @@ use Rattle.gaz_stored.proofs.laws.worked_meetings.Goals as goal
 module _ {K : Type 0} (seen : K → Seen) (most : ℕ) where
   one_at : (mid new : Hub K) (more : List Meeting) → TalksOrRests seen most mid new more → 1 ≤ length more
   one_at mid new more (Talked talk) = subst (λ ms. 1 ≤ length ms) (sym talk.met_is) (omega arith)
-  one_at mid new more (Rested rest) = subst (λ ms. 1 ≤ length ms) (sym rest.met_is) (omega arith)
+  one_at mid new more (Rested still missed) = subst (λ ms. 1 ≤ length ms) (sym missed) (omega arith)
 
   fewest : (old : Hub K) (served : ℕ) (hub : Hub K) (met : List Meeting) (commands : List Command) (responses : List Response) → InTurn seen most old served hub met commands responses → served ≤ length met
   fewest old served hub met commands responses Nobody = omega arith

@@ -3,7 +3,7 @@ use Rattle.std.proofs.Common.{◌∙◌, ap, subst}
 use Rattle.std.specs.Option.{unwrap_or}
 use Rattle.gaz_loaded.specs.Loading.{IsLoaded}
 use Rattle.gaz_stored.specs.Filling.{IsFilled}
-use Rattle.gaz_stored.proofs.filling.fill.Goals as goal
+use Rattle.gaz_stored.proofs.joining.fill.Goals as goal
 
 pub returns-in-Ok-load-clause-filled : goal.returns-in-Ok-load-clause-filled
 returns-in-Ok-load-clause-filled g c = λ x is.
