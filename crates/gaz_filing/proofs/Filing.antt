@@ -1,5 +1,5 @@
 -- What is said of what was done over a store's files, or why it wasn't.
-use Rattle.std.proofs.Common.{◌≡◌, ◌≢◌, ◌↔◌, ◌∙◌, Bool, false, Ok, Err, Option, Result, IsTrue, IfErr, ap, inl, inr, sym}
+use Rattle.std.proofs.Common.{◌≡◌, ◌≢◌, ◌↔◌, ◌∙◌, Bool, false, Ok, Err, Option, Result, IsTrue, ap, inl, inr, sym}
 use Rattle.std.proofs.lemmas.Bool.{cases_Bool}
 use Rattle.std.specs.declared.marker.Brand.{Brand}
 use Rattle.sqlite.specs.Files.{file_state, over_files}
@@ -15,11 +15,7 @@ use Rattle.gaz_register.specs.Registers.{RegisterValue}
 use Rattle.gaz_register.specs.Texts.{register_text}
 use Rattle.gaz_store.specs.Opened.{IsRefused, answer_of}
 use Rattle.gaz_store.specs.declared.store.Store.{Store}
-use Rattle.gaz_stored.specs.Migrating as migrating
-use Rattle.gaz_stored.specs.Migrating.{StopsMoving}
-use Rattle.gaz_stored.specs.Using as stored
-use Rattle.gaz_stored.specs.declared.migrating.Migration.{Migration}
-use Rattle.gaz_filing.specs.Filing.{Closes, Connects, HandedBack, HasNoNewStore, HasNoStore, MakesNone, MigratesNone, OpensNone, OverFiles}
+use Rattle.gaz_filing.specs.Filing.{Closes, Connects, HandedBack, HasNoNewStore, MakesNone, OverFiles}
 
 -- where a store was made no table of such a name was there
 pub is_free : (any : Bool) → ◌≡◌ {A = Result (Unit {0}) StoreRefusal} (Ok tt) (Err BadSchema) ↔ IsTrue any → any ≡ false
@@ -32,28 +28,6 @@ why_is is = cc
 module _ {D : Type 0} (g : disk.Ghosts D) (files : Files D) (left : Option (Files D)) (conn back : Held (FileStore D g)) (connects : Connects g files conn) (closes : Closes g back left) where
   pub over : (Does : Held (FileStore D g) → Held (FileStore D g) → Type 0) → Does conn back → OverFiles g files left Does
   over Does does = record { conn = conn; after = back; connects = connects; does = does; closes = closes }
-
-  module _ (register : RegisterValue) where
-    pub opens_none : {T : Type 0} (held : Result T StoreRefusal) → stored.LacksStore over_files register conn back held → IfErr held (OpensNone g files left register)
-    opens_none (Ok told) lacks = tt
-    opens_none (Err refusal) lacks =
-        let why : HasNoStore g register refusal conn back =
-        record { lacking = λ none. ap Err (why_is (lacks.lacking none)); rows = lacks.rows; judged = lacks.judged; refused = lacks.refused; untouched = lacks.untouched } in
-        HandedBack (over _ why)
-
-    pub migrates_none : (held : Result Migration StoreRefusal) → StopsMoving over_files register conn back → migrating.LacksBoth over_files register conn back held → IfErr held (MigratesNone g files left register)
-    migrates_none (Ok told) stops lacks = tt
-    migrates_none (Err refusal) stops lacks =
-        let why : migrating.LacksBoth over_files register conn back {T = Unit {0}} (Err refusal) =
-        record {
-          lacking = λ none none_first. ap Err (why_is (lacks.lacking none none_first));
-          rows = lacks.rows;
-          judged = lacks.judged;
-          rows_first = lacks.rows_first;
-          judged_first = lacks.judged_first;
-          refused = lacks.refused;
-        } in
-        HandedBack (over _ (why, stops))
 
   -- why none was made
   module _ (result : Result (Store (FileStore D g) Brand over_files) (Held (FileStore D g) × StoreRefusal)) (refused : IsRefused over_files conn back)

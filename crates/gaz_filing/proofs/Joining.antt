@@ -26,7 +26,7 @@ use Rattle.gaz_stored.specs.Reopening.{HasStoreOf, OpensOrFails, OpensThen}
 use Rattle.gaz_stored.specs.Runs.{GoesOn}
 use Rattle.gaz_steps.specs.Step.{new_hub}
 use Rattle.gaz_filing.specs.Filing.{Closes, Connects}
-use Rattle.gaz_filing.specs.Joined.{CallsAreOne, FileCall, FollowOn, IsGiven, IsPassedOn, NextOpens, call_over, came_over}
+use Rattle.gaz_filing.specs.Joined.{CallsAreOne, FileCall, FollowOn, IsGiven, IsPassedOn, NextOpens, call_over}
 
 -- a refusal that is told of a store under its register
 just_a_fault : (refusal : StoreRefusal) → OpensOrFails (Err refusal) → refusal ≡ Fault
@@ -55,39 +55,37 @@ module _ {D : Type 0} (g : disk.Ghosts D) where
       λ i. record { schema = schema i; trees = trees i }
 
   -- a call found a disk that had returned what was written, where what is found after it says so
-  was_clean : {before after : Held (FileStore D g)} {found : Database} → CameTo (over_files {D = D} {g = g}) before after → IsFoundAfter (over_files {D = D} {g = g}) before after found → HasCleanDisk (file_state before)
+  pub was_clean : {before after : Held (FileStore D g)} {found : Database} → CameTo (over_files {D = D} {g = g}) before after → IsFoundAfter (over_files {D = D} {g = g}) before after found → HasCleanDisk (file_state before)
   was_clean came (Whole fine same) = calling.was_clean (over_files {D = D} {g = g}) came fine.clean
   was_clean came (CutOff itself may) = calling.was_clean (over_files {D = D} {g = g}) came may.clean
 
   -- a call that is given the files shows it
-  given_shows : (next : FileCall g) (old : Held (FileStore D g)) (left : Option (Files D)) → Closes g old left → IsGiven g next left → (file_state (came_over g next.call).conn).now ≡ (file_state old).now
+  given_shows : (next : FileCall g) (old : Held (FileStore D g)) (left : Option (Files D)) → Closes g old left → IsGiven g next left → (file_state next.over.conn).now ≡ (file_state old).now
   given_shows next old left closes given =
-      let over = came_over g next.call in
-      shown_again old over.conn next.files (subst (Closes g old) given closes) over.connects (was_clean over.does next.is_found)
+      shown_again old next.over.conn next.files (subst (Closes g old) given closes) next.over.connects (was_clean next.over.does next.is_found)
 
   -- so each finds what is found after the one before
   passes_on : (before after : Held (FileStore D g)) (found : Database) (is_found : IsFoundAfter (over_files {D = D} {g = g}) before after found) (left : Option (Files D)) (next : FileCall g) → Closes g after left → IsPassedOn g is_found left next
-      → (file_state (came_over g next.call).conn).now ≡ found
+      → (file_state next.over.conn).now ≡ found
   passes_on before after found (Whole fine same) left next closes given = given_shows next after left closes given ∙ same
   passes_on before after found (CutOff itself may) left next closes shows = shows
 
   follow_on : (call : FileCall g) (later : List (FileCall g)) → FollowOn g call later → stored.FollowOn (over_files {D = D} {g = g}) call.found (map (call_over g) later)
   follow_on call [] follow = tt
   follow_on call (next ∷ later) follow =
-      let over = came_over g call.call in
-      (passes_on over.conn over.after call.found call.is_found call.left next over.closes follow.0, follow_on next later follow.1)
+      (passes_on call.over.conn call.over.after call.found call.is_found call.left next call.over.closes follow.0, follow_on next later follow.1)
 
   pub calls_are_one : CallsAreOne g
   calls_are_one = record {
     opened = λ register first later is store follow.
-        calling.calls_are_one (over_files {D = D} {g = g}) register (file_state (came_over g first.call).conn).now (map (call_over g) (first ∷ later)) is store (refl, follow_on first later follow);
+        calling.calls_are_one (over_files {D = D} {g = g}) register (file_state first.over.conn).now (map (call_over g) (first ∷ later)) is store (refl, follow_on first later follow);
     behind = λ register old left first later is store closes given follow.
         calling.calls_are_one (over_files {D = D} {g = g}) register (file_state old).now (map (call_over g) (first ∷ later)) is store (given_shows first old left closes given, follow_on first later follow);
-    made = λ register files left conn after makes room clean.
+    made = λ register conn after makes room clean.
         let fine = subst (λ k. HasCleanDisk (file_state k)) (sym makes.back) clean in
         let alone = made_alone register conn makes.store makes.made room (record { clean = fine; is_open = makes.made.is_open fine }) in
         subst (λ k. GoesOn register new_hub [] [] (file_state k).now) makes.back alone;
-    not_made = λ register files left conn after makes tables. absurd (true≢false (sym (any_found (file_state conn).now.schema tables.there) ∙ makes.free));
+    not_made = λ register conn after makes tables. absurd (true≢false (sym (any_found (file_state conn).now.schema tables.there) ∙ makes.free));
   }
 
   opens : (register : RegisterValue) (old conn next : Held (FileStore D g)) (files : Files D) → HasStoreOf register (file_state old).now → Closes g old (Some files) → Connects g files conn → HasCleanDisk (file_state conn)

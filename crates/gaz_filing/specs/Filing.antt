@@ -1,6 +1,6 @@
 -- What is done over a store's two files.
-use Rattle.std.specs.Prelude.{◌≡◌, ◌≢◌, ◌↔◌, false, ℕ, List, Option, Some, None, Result, Err}
-use Rattle.std.specs.Prelude.{IsTrue}
+use Rattle.std.specs.Prelude.{◌≡◌, ◌≢◌, ◌↔◌, false, ℕ, List, Option, Some, None, Result}
+use Rattle.std.specs.Prelude.{IsSomeAnd, IsTrue}
 use Rattle.std.specs.declared.marker.Brand.{Brand}
 use Rattle.sqlite.specs.Closing.{IsCopied, files_left}
 use Rattle.sqlite.specs.Files.{FailsToClose, Finds, IsCleanLeft, IsClosed, IsOpened, LeavesFiles}
@@ -53,10 +53,6 @@ module _ {D : Type 0} (g : disk.Ghosts D) where
     pub are : (left.log, left.db) ≡ files_left rest
     pub unharmed : IsCleanLeft rest → LeavesFiles files rest
 
-  abbrev pub IfConnectionFails : Files D → Option (Files D) → Type 0
-  IfConnectionFails files None = ⊥
-  IfConnectionFails files (Some left) = FailsToConnect files left
-
   -- the files that are given back hold its last commit, or closing failed
   abbrev pub CopiesOrFails : Held (FileStore D g) → Option (Files D) → Type 0
   CopiesOrFails conn (Some files) = AreClean g files.log files.db → IsCopied conn files
@@ -69,6 +65,15 @@ module _ {D : Type 0} (g : disk.Ghosts D) where
     pub settled : IsTrue (file_state conn).is_open
         → (file_state conn).now ≡ (file_state conn).committed
     pub files : CopiesOrFails conn left
+
+  -- a store of the register is made over a connection
+  pub record Makes (register : RegisterValue) (conn after : Held (FileStore D g)) : Type 0 where
+    -- no table named as one of a store's was there
+    pub free : has_any (file_state conn).now.schema ≡ false
+    pub store : Store (FileStore D g) Brand over_files
+    pub made : IsMade (file_state conn) (file_state store.tables.conn) (register_text register)
+        (seen_in (register_text register) store)
+    pub back : store.tables.conn ≡ after
 
   -- ---- why there is no store, and the connection is handed back over what was there
 
@@ -84,18 +89,11 @@ module _ {D : Type 0} (g : disk.Ghosts D) where
     pub untouched : IsTrue (has_any (file_state conn).now.schema) → Untouched over_files conn back
     pub leaves : MayCreate over_files conn back schema_number (register_text register)
 
-  -- none of the register is there, for this reason, and nothing is written
-  abbrev pub HasNoStore : RegisterValue → StoreRefusal → Held (FileStore D g)
-      → Held (FileStore D g) → Type 0
-  HasNoStore register refusal conn back =
-      LacksStore over_files register {T = Unit {0}} conn back (Err refusal)
-
   -- none of either schema is there, for this reason, and this is what a stop leaves
   abbrev pub HasNeither : RegisterValue → StoreRefusal → Held (FileStore D g)
       → Held (FileStore D g) → Type 0
   HasNeither register refusal conn back =
-      LacksBoth over_files register conn back {T = Unit {0}} (Err refusal)
-      × StopsMoving over_files register conn back
+      LacksBoth over_files register conn back refusal × StopsMoving over_files register conn back
 
   -- Below, the files are those that are given, and those that are given back.
   module _ (files : Files D) (left : Option (Files D)) where
@@ -111,18 +109,11 @@ module _ {D : Type 0} (g : disk.Ghosts D) where
     -- no connection was had, which is a fault; or one was handed back for this reason
     pub data Declines (refusal : StoreRefusal)
         (Why : Held (FileStore D g) → Held (FileStore D g) → Type 0) : Type 0 where
-      NoConnection : refusal ≡ Fault → IfConnectionFails files left → Declines refusal Why
+      NoConnection : refusal ≡ Fault → IsSomeAnd left (FailsToConnect files)
+          → Declines refusal Why
       HandedBack : OverFiles Why → Declines refusal Why
 
     -- ---- a store is made
-
-    pub record Makes (register : RegisterValue) (conn after : Held (FileStore D g)) : Type 0 where
-      -- no table named as one of a store's was there
-      pub free : has_any (file_state conn).now.schema ≡ false
-      pub store : Store (FileStore D g) Brand over_files
-      pub made : IsMade (file_state conn) (file_state store.tables.conn) (register_text register)
-          (seen_in (register_text register) store)
-      pub back : store.tables.conn ≡ after
 
     abbrev pub MakesStore : RegisterValue → Said → Type 0
     MakesStore register answer = (answer ≡ said.Line Ready) × OverFiles (Makes register)
@@ -150,9 +141,9 @@ module _ {D : Type 0} (g : disk.Ghosts D) where
     ExtendsStore register grown told =
         OverFiles (λ conn after. ExtendsOpened over_files register grown conn after told)
 
-    -- there is none of the register
+    -- there is none of the register, and nothing is written
     abbrev pub OpensNone : RegisterValue → StoreRefusal → Type 0
-    OpensNone register refusal = Declines refusal (HasNoStore register refusal)
+    OpensNone register refusal = Declines refusal (LacksStore over_files register refusal)
 
     -- ---- it is migrated
 

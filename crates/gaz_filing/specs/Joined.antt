@@ -1,6 +1,6 @@
 -- Calls over the same files, one after another, each under a register of its own, of which each
 -- ends whole or is cut off by a stop.
-use Rattle.std.specs.Prelude.{◌≡◌, ⊤, ℕ, List, [], ◌∷◌, map, Option, Some, Result}
+use Rattle.std.specs.Prelude.{◌≡◌, ⊤, List, [], ◌∷◌, map, Option, Some}
 use Rattle.sqlite.specs.Effect.{Database}
 use Rattle.sqlite.specs.Files.{file_state, over_files}
 use Rattle.sqlite.specs.Held.{Held}
@@ -13,36 +13,14 @@ use Rattle.gaz_tables.specs.Creating.{HasRoom}
 use Rattle.gaz_tables.specs.Stores.{HasTables}
 use Rattle.gaz_kept.specs.declared.refusal.StoreRefusal.{StoreRefusal}
 use Rattle.gaz_kept.specs.declared.refusal.StoreRefusal.TheVariants.{Fault}
-use Rattle.gaz_calls.specs.declared.growing.ExtendFault.{ExtendFault}
-use Rattle.gaz_store.specs.Opened.{IsRefused}
-use Rattle.gaz_steps.specs.Step.{Command, new_hub}
-use Rattle.gaz_commands.specs.declared.said.Said.{Said}
-use Rattle.gaz_stored.specs.Calls.{AreOneRun, Call, CameTo, CutOff, Grew, IsFoundAfter, Moved}
-use Rattle.gaz_stored.specs.Calls.{Refused, Used, Whole}
-use Rattle.gaz_stored.specs.Meetings.{Meeting}
+use Rattle.gaz_steps.specs.Step.{new_hub}
+use Rattle.gaz_stored.specs.Calls.{AreOneRun, Call, CameTo, CutOff, IsFoundAfter, Whole}
 use Rattle.gaz_stored.specs.Reopening.{HasStoreOf, OpensThen}
 use Rattle.gaz_stored.specs.Runs.{GoesOn, IsStoreOf}
-use Rattle.gaz_stored.specs.declared.attending.Unserved.{Unserved}
-use Rattle.gaz_stored.specs.declared.migrating.Migration.{Migration}
-use Rattle.gaz_filing.specs.Filing.{AsksStore, Closes, Connects, ExtendsStore, HasNeither}
-use Rattle.gaz_filing.specs.Filing.{HasNoStore, Makes, MigratesStore, OverFiles, ServesStore}
+use Rattle.gaz_stored.specs.Using.{LacksStore}
+use Rattle.gaz_filing.specs.Filing.{Closes, Connects, HasNeither, Makes, OverFiles}
 
 module _ {D : Type 0} (g : disk.Ghosts D) where
-  -- a call over files that it was given and those that it gave back, as its contract says: it asked
-  -- a hub, answered connections, let a register grow or migrated a store; or it was refused
-  pub data CallOver (files : Files D) (left : Option (Files D)) : Type 0 where
-    Asked : (register : RegisterValue) (call : Result Command Said) (answer : Said)
-        → IsRegister register → AsksStore g files left register call answer → CallOver files left
-    Served : (register : RegisterValue) (most : ℕ) (held : Result ℕ Unserved) (met : List Meeting)
-        → IsRegister register → ServesStore g files left register most held met
-        → CallOver files left
-    Extended : (register grown : RegisterValue) (told : Result (Unit {0}) ExtendFault)
-        → IsRegister register → IsRegister grown
-        → ExtendsStore g files left register grown told → CallOver files left
-    Migrated : (register : RegisterValue) (told : Migration)
-        → MigratesStore g files left register told → CallOver files left
-    Declined : OverFiles g files left (IsRefused over_files) → CallOver files left
-
   -- what was done over a connection is said otherwise
   abbrev pub said_as : {files : Files D} {left : Option (Files D)}
       {Does Is : Held (FileStore D g) → Held (FileStore D g) → Type 0}
@@ -56,26 +34,14 @@ module _ {D : Type 0} (g : disk.Ghosts D) where
     closes = over.closes;
   }
 
-  -- what a call came to
-  abbrev pub came_over : {files : Files D} {left : Option (Files D)} → CallOver files left
-      → OverFiles g files left (CameTo over_files)
-  came_over (Asked register call answer is asks) =
-      said_as (λ _ _ it. Used register it.first it.commands it.responses is it.uses) asks
-  came_over (Served register most held met is serves) =
-      said_as (λ _ _ it. Used register it.first it.commands it.responses is it.uses) serves
-  came_over (Extended register grown told is are extends) =
-      said_as (λ _ _ it. Grew register grown told is are it) extends
-  came_over (Migrated register told migrates) =
-      said_as (λ _ _ it. Moved register told it.0) migrates
-  came_over (Declined refused) = said_as (λ _ _ it. Refused it) refused
-
-  -- a call, and what is found after it
+  -- a call over files that it was given and those that it gave back, what it came to, and what is
+  -- found after it
   pub record FileCall : Type 0 where
     pub files : Files D
     pub left : Option (Files D)
-    pub call : CallOver files left
+    pub over : OverFiles g files left (CameTo over_files)
     pub found : Database
-    pub is_found : IsFoundAfter over_files (came_over call).conn (came_over call).after found
+    pub is_found : IsFoundAfter over_files over.conn over.after found
 
   -- a call that no stop cut off
   abbrev pub IsWhole : {before after : Held (FileStore D g)} {found : Database}
@@ -87,15 +53,13 @@ module _ {D : Type 0} (g : disk.Ghosts D) where
   EndedWhole call = IsWhole call.is_found
 
   abbrev pub call_over : FileCall → Call (over_files {D = D} {g = g})
-  call_over it =
-      let over = came_over it.call in
-      record {
-        before = over.conn;
-        after = over.after;
-        came = over.does;
-        found = it.found;
-        is_found = it.is_found;
-      }
+  call_over it = record {
+    before = it.over.conn;
+    after = it.over.after;
+    came = it.over.does;
+    found = it.found;
+    is_found = it.is_found;
+  }
 
   -- it was given these files
   abbrev pub IsGiven : FileCall → Option (Files D) → Type 0
@@ -106,7 +70,7 @@ module _ {D : Type 0} (g : disk.Ghosts D) where
       → IsFoundAfter over_files before after found → Option (Files D) → FileCall → Type 0
   IsPassedOn (Whole fine same) left next = IsGiven next left
   IsPassedOn {before} {after} {found} (CutOff itself may) left next =
-      (file_state (came_over next.call).conn).now ≡ found
+      (file_state next.over.conn).now ≡ found
 
   -- and so on from this one
   abbrev pub FollowOn : FileCall → List FileCall → Type 0
@@ -123,9 +87,9 @@ module _ {D : Type 0} (g : disk.Ghosts D) where
   pub record CallsAreOne : Type 0 where
     -- over the store that the first of them finds
     pub opened : (register : RegisterValue) (first : FileCall) (later : List FileCall)
-        → IsRegister register → IsStoreOf register (file_state (came_over first.call).conn).now
+        → IsRegister register → IsStoreOf register (file_state first.over.conn).now
         → FollowOn first later
-        → AreOne register (file_state (came_over first.call).conn).now (first ∷ later)
+        → AreOne register (file_state first.over.conn).now (first ∷ later)
     -- behind a connection that was closed over a store, as over one that was just made or migrated
     pub behind : (register : RegisterValue) (old : Held (FileStore D g)) (left : Option (Files D))
         (first : FileCall) (later : List FileCall)
@@ -133,14 +97,12 @@ module _ {D : Type 0} (g : disk.Ghosts D) where
         → Closes g old left → IsGiven first left
         → FollowOn first later → AreOne register (file_state old).now (first ∷ later)
     -- where one is made and there was room, it is a store of its register that was asked nothing
-    pub made : (register : RegisterValue) (files : Files D) (left : Option (Files D))
-        (conn after : Held (FileStore D g))
-        → Makes g files left register conn after → HasRoom (file_state conn).now.schema
+    pub made : (register : RegisterValue) (conn after : Held (FileStore D g))
+        → Makes g register conn after → HasRoom (file_state conn).now.schema
         → HasCleanDisk (file_state after) → GoesOn register new_hub [] [] (file_state after).now
     -- and none is made where a store's tables are there
-    pub not_made : (register : RegisterValue) (files : Files D) (left : Option (Files D))
-        (conn after : Held (FileStore D g))
-        → Makes g files left register conn after → ¬ HasTables (file_state conn).now
+    pub not_made : (register : RegisterValue) (conn after : Held (FileStore D g))
+        → Makes g register conn after → ¬ HasTables (file_state conn).now
 
   -- over the files that were given back of a store, under its register
   pub record NextOpens : Type 0 where
@@ -153,7 +115,7 @@ module _ {D : Type 0} (g : disk.Ghosts D) where
     pub lacks : (register : RegisterValue) (old : Held (FileStore D g)) (files : Files D)
         (left : Option (Files D)) (refusal : StoreRefusal)
         → HasStoreOf register (file_state old).now → Closes g old (Some files)
-        → (over : OverFiles g files left (HasNoStore g register refusal))
+        → (over : OverFiles g files left (LacksStore over_files register refusal))
         → HasCleanDisk (file_state over.after) → refusal ≡ Fault
     -- and so does a migration
     pub migrates : (register : RegisterValue) (old : Held (FileStore D g)) (files : Files D)

@@ -1,5 +1,5 @@
 -- What comes of connections that are answered.
-use Rattle.std.proofs.Common.{◌≡◌, ℕ, false, List, Ok, Err, Result, IfOk, IfErr, IfSome, Option, refl}
+use Rattle.std.proofs.Common.{◌≡◌, ◌-◌, ℕ, false, List, Ok, Err, Result, IfOk, IfErr, IfSome, Option, refl}
 use Rattle.std.specs.Io.KnownBytes.{Keeps}
 use Rattle.sqlite_disk.specs.declared.Disk as disk
 use Rattle.gaz_kept.specs.declared.refusal.StoreRefusal.{StoreRefusal}
@@ -9,7 +9,7 @@ use Rattle.gaz_stored.specs.declared.attending.Unserved.{Unserved}
 use Rattle.gaz_stored.specs.declared.attending.Unserved.TheVariants.{NoPort, Unwritten}
 use Rattle.gaz_words.specs.declared.command.Places.{Places}
 use Rattle.gazhub.specs.Endings.{is_silent}
-use Rattle.gazhub.specs.Serving.{NoMore, ServesRest, Untold, Whole, said_of_serving}
+use Rattle.gazhub.specs.Serving.{More, NoMore, ServesRest, Untold, Whole, said_of_serving}
 use Rattle.gazhub.specs.Sites.{Deed}
 use Rattle.gazhub.specs.declared.ending.Ending.{Ending}
 
@@ -28,7 +28,8 @@ silent_of bound had has (Ok (Err NoPort)) announced = announced.1
 silent_of bound had has (Err refusal) announced = announced
 
 -- something may have been printed
-pub speaks : {S D : Type 0} (done : S → Deed D → S → Type 0) (g : disk.Ghosts D) (places : Places) (port connections : ℕ) (before after : S) (ending : Ending) → ServesRest done g places port connections before after ending → is_silent ending ≡ false
-speaks done g places port connections before after ending (Whole left_are) = refl
-speaks done g places port connections before after ending (Untold left between left_are once) = refl
-speaks done g places port connections before after ending (NoMore left between why left_are once) = refl
+pub speaks : {S D : Type 0} (done : S → Deed D → S → Type 0) (g : disk.Ghosts D) (places : Places) (port left : ℕ) (before after : S) (ending : Ending) → ServesRest done g places port left before after ending → is_silent ending ≡ false
+speaks done g places port left before after ending (Whole site) = refl
+speaks done g places port left before after ending (More some served first between last how once rest) = speaks done g places port (left - served) between after ending rest
+speaks done g places port left before after ending (Untold some first last once) = refl
+speaks done g places port left before after ending (NoMore some first last why once) = refl

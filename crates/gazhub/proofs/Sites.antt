@@ -32,20 +32,14 @@ module _ {S D A : Type 0} (done : S → Deed D → S → Type 0) (before after :
       NoFiles finds.1 (e.1 ∙ ap Err (e.2 ∙ finds.0))
 
 module _ {S D : Type 0} (done : S → Deed D → S → Type 0) where
-  -- deeds behind other deeds
-  does_then : (deeds more : List (Deed D)) (before between after : S) → Does done before deeds between → Does done between more after → Does done before (deeds ++ more) after
-  does_then [] more before between after still later = subst (λ s. Does done s more after) still later
-  does_then (deed ∷ deeds) more before between after does later = (does.0, does.1, does_then deeds more does.0 between after does.2 later)
-
   module _ (meets : S → Meeting → S → Type 0) (tells : (old new : S) (met : Meeting) → meets old met new → done old (Met met) new) where
     -- what came of peers, one after another, is among them
     all_met : (met : List Meeting) (old new : S) → AreMet meets old met new → Does done old (map Met met) new
     all_met [] old new still = still
     all_met (next ∷ later) old new are = (are.0, tells old are.0 next are.1, all_met later are.0 new are.2)
 
-    -- peers were answered or weren't, and the files were given back
-    pub met_in : {R W H E : Type 0} (read_failed : R → R → Type 0) (write_failed : W → W → Type 0) (Then : H → List Meeting → Type 0) (left : Option (Files D)) (mid served after : S) (held : Result H E) → IfOk held (λ how. WithPeers meets read_failed write_failed (Then how) mid served)
-        → IfErr held (λ _. served ≡ mid) → done served (Closed left) after → (met : List Meeting) × Does done mid (map Met met ++ Closed left ∷ []) after × IfOk held (λ how. Then how met) × OnErr held (met ≡ [])
-    met_in read_failed write_failed Then left mid served after (Ok how) answers still closed =
-        (answers.met, does_then (map Met answers.met) (Closed left ∷ []) mid served after (all_met answers.met mid served answers.are_met) (after, closed, refl), answers.then, tt)
-    met_in read_failed write_failed Then left mid served after (Err why) answers still closed = ([], (after, subst (λ s. done s (Closed left) after) still closed, refl), tt, refl)
+    -- peers were answered or weren't
+    pub met_in : {R W H E : Type 0} (read_failed : R → R → Type 0) (write_failed : W → W → Type 0) (Then : H → List Meeting → Type 0) (mid served : S) (held : Result H E) → IfOk held (λ how. WithPeers meets read_failed write_failed (Then how) mid served)
+        → IfErr held (λ _. served ≡ mid) → (met : List Meeting) × Does done mid (map Met met) served × IfOk held (λ how. Then how met) × OnErr held (met ≡ [])
+    met_in read_failed write_failed Then mid served (Ok how) answers still = (answers.met, all_met answers.met mid served answers.are_met, answers.then, tt)
+    met_in read_failed write_failed Then mid served (Err why) answers still = ([], still, tt, refl)

@@ -16,7 +16,6 @@ use Rattle.gaz_http.specs.declared.supply.Cause.{Cause}
 use Rattle.gaz_http.specs.declared.supply.Cause.TheVariants as cause
 use Rattle.gaz_stored.specs.Unheard.{IsUnheard}
 use Rattle.gaz_words.specs.Meaning.{Means}
-use Rattle.gaz_words.specs.Words.{asks_play}
 use Rattle.gaz_words.specs.declared.command.Command.{Command}
 use Rattle.gaz_words.specs.declared.command.Command.TheVariants.{Play, Init, Ask, Serve}
 use Rattle.gaz_words.specs.declared.command.Command.TheVariants.{Extend, Migrate}
@@ -72,7 +71,7 @@ pub record Finishes (Works : Result Said WhyNoHub → Type 0) (through : Transfe
   pub finished : IsFinished through.held through.holds told ending
   pub silent : StaysSilent through ending
 
--- help, or the version, was printed, unless the output failed
+-- how the program ends where help, or the version, is asked for; what is printed isn't said
 abbrev pub IsShown : Ending → Type 0
 IsShown Done = Unit {0}
 IsShown WriteFault = Unit {0}
@@ -108,7 +107,7 @@ module _ {S D : Type 0} (done : S → Deed D → S → Type 0) (g : disk.Ghosts 
   EndsAt (Migrate places) ending =
       Finishes (MigrateComesTo done g places before after) through ending
 
-  -- help is printed, or what is wrong with the words is told, and nothing is done
+  -- how the program ends where help is asked for, or the words are at fault; nothing is done
   pub record Explains (error : Error) (ending : Ending) : Type 0 where
     pub explained : IsExplained error.kind ending
     pub silent : StaysSilent through ending
@@ -121,11 +120,6 @@ module _ {S D : Type 0} (done : S → Deed D → S → Type 0) (g : disk.Ghosts 
     Explained : (error : Error) → Means words (Err error) → Explains error ending
         → EndsByMeaning words ending
 
-  -- a conversation is asked for, or it is looked for what the words mean
-  abbrev pub EndsAtWords : List (List ℕ) → Bool → Ending → Type 0
-  EndsAtWords words true ending = EndsPlaying ending
-  EndsAtWords words false ending = EndsByMeaning words ending
-
   -- nothing was asked, since the words or random bytes couldn't be read
   abbrev pub EndsUnasked : Ending → Type 0
   EndsUnasked ending = ((ending ≡ ReadFault) × IsUnheard through) × (after ≡ before)
@@ -135,7 +129,7 @@ module _ {S D : Type 0} (done : S → Deed D → S → Type 0) (g : disk.Ghosts 
   abbrev pub Ends : Option (List (List ℕ)) → Bool → Ending → Type 0
   Ends None random ending = EndsUnasked ending
   Ends (Some words) false ending = EndsUnasked ending
-  Ends (Some words) true ending = EndsAtWords words (asks_play words) ending
+  Ends (Some words) true ending = EndsByMeaning words ending
 
 -- how the program ends, where `clap` may have told of the usage instead
 abbrev pub ending_of : {E : Type 0} → Result Ending E → Ending

@@ -1,6 +1,7 @@
 -- How often a command opened a store's files, and what was done over them each time.
 use Rattle.std.specs.Prelude.{◌++◌, ℕ, Bool, true, false, List, [], ◌∷◌, Option, Some, None}
-use Rattle.std.specs.Prelude.{Result, Ok, Err, IfOk, IfErr}
+use Rattle.std.specs.Prelude.{Result, Ok, Err, IfOk, IfErr, IsSomeAnd}
+use Rattle.std.specs.declared.marker.Brand.{Brand}
 use Rattle.sqlite.specs.Files.{over_files}
 use Rattle.sqlite.specs.Held.{Held}
 use Rattle.sqlite_disk.specs.declared.Disk as disk
@@ -9,38 +10,40 @@ use Rattle.sqlite_store.specs.declared.store.FileStore.{FileStore}
 use Rattle.gaz_register.specs.Registers.{IsRegister, RegisterValue}
 use Rattle.gaz_kept.specs.declared.refusal.StoreRefusal.{StoreRefusal}
 use Rattle.gaz_store.specs.Opened.{IsRefused}
+use Rattle.gaz_store.specs.declared.store.Store.{Store}
 use Rattle.gaz_exchange.specs.Conversing.{Transfer}
-use Rattle.gaz_commands.specs.declared.said.Said.{Said}
-use Rattle.gaz_stored.specs.Asking.{asked}
-use Rattle.gaz_stored.specs.declared.connections.TheConstants.{MOST_REQUESTS}
-use Rattle.gaz_words.specs.Words.{asks_play}
-use Rattle.gaz_words.specs.declared.command.Call.{Call}
+use Rattle.gaz_stored.specs.Calls.{CameTo, Grew, Moved, Refused, Used}
+use Rattle.gaz_stored.specs.Ways.{Way}
 use Rattle.gaz_words.specs.declared.command.Command.{Command}
 use Rattle.gaz_words.specs.declared.command.Command.TheVariants.{Play, Init, Ask, Serve}
 use Rattle.gaz_words.specs.declared.command.Command.TheVariants.{Extend, Migrate}
 use Rattle.gaz_words.specs.declared.command.Places.{Places}
-use Rattle.gaz_filing.specs.Filing.{Declines, HandedBack, IfConnectionFails, Makes}
-use Rattle.gaz_filing.specs.Filing.{NoConnection, OpensNone, OverFiles}
-use Rattle.gaz_filing.specs.Joined.{Asked, CallOver, Declined, Extended, Migrated, Served, said_as}
-use Rattle.gazhub.specs.Commands.{Ends, EndsAt, EndsAtWords, EndsByMeaning}
+use Rattle.gaz_filing.specs.Filing.{Declines, FailsToConnect, HandedBack, Makes, NoConnection}
+use Rattle.gaz_filing.specs.Filing.{OpensNone, OverFiles, UsesStore}
+use Rattle.gaz_filing.specs.Joined.{said_as}
+use Rattle.gazhub.specs.Commands.{Ends, EndsAt, EndsByMeaning}
 use Rattle.gazhub.specs.Commands.{Explained, Followed}
-use Rattle.gazhub.specs.Serving.{All, AreLeft, Begins, Fewer, NeverBegins, NeverTold, NoMore}
-use Rattle.gazhub.specs.Serving.{ServeComesTo, ServesIn, ServesOnce, ServesRest, Untold, Whole}
+use Rattle.gazhub.specs.Serving.{Begins, More, NeverBegins, NeverTold, NoMore, ServeComesTo}
+use Rattle.gazhub.specs.Serving.{ServesOnce, ServesRest, Untold, Whole}
 use Rattle.gazhub.specs.Sites.{Deed, HasFiles, HasRegister, NoFiles, NoRegister, WithFiles}
 use Rattle.gazhub.specs.Sites.{WithRegister}
-use Rattle.gazhub.specs.Working.{AsksIn, GrowsIn, MakesIn, MigratesIn}
+use Rattle.gazhub.specs.Working.{DoneIn}
 use Rattle.gazhub.specs.declared.ending.Ending.{Ending}
 use Rattle.gazhub.specs.declared.files.NoHub.{NoHub}
 use Rattle.gazhub.specs.declared.site.Purpose.{Purpose}
 
 module _ {D : Type 0} (g : disk.Ghosts D) where
-  -- what was done over a store's files that were opened, and those that were given back: a call, by
-  -- its contract; a store was made; or there was no connection to a database
+  -- what was done over a connection to a store's files: a call, or a store was made
+  pub data Did (conn after : Held (FileStore D g)) : Type 0 where
+    Called : CameTo over_files conn after → Did conn after
+    MadeStore : (register : RegisterValue) → IsRegister register → Makes g register conn after
+        → Did conn after
+
+  -- what was done over files that were opened, and those that were given back; or there was no
+  -- connection to a database
   pub data DoneOver (files : Files D) (left : Option (Files D)) : Type 0 where
-    Called : CallOver g files left → DoneOver files left
-    MadeStore : (register : RegisterValue) → IsRegister register
-        → OverFiles g files left (Makes g files left register) → DoneOver files left
-    Unconnected : IfConnectionFails g files left → DoneOver files left
+    Over : OverFiles g files left Did → DoneOver files left
+    Unconnected : IsSomeAnd left (FailsToConnect g files) → DoneOver files left
 
   -- an opening of them
   pub record Opening : Type 0 where
@@ -48,13 +51,34 @@ module _ {D : Type 0} (g : disk.Ghosts D) where
     pub left : Option (Files D)
     pub over : DoneOver files left
 
+  -- ---- what each call says was done
+
+  abbrev pub made_over : {files : Files D} {left : Option (Files D)} (register : RegisterValue)
+      → IsRegister register → OverFiles g files left (Makes g register) → DoneOver files left
+  made_over register is makes = Over (said_as g (λ conn after it. MadeStore register is it) makes)
+
+  -- a call came to this
+  abbrev pub called_over : {files : Files D} {left : Option (Files D)}
+      {Does : Held (FileStore D g) → Held (FileStore D g) → Type 0}
+      → ((conn after : Held (FileStore D g)) → Does conn after → CameTo over_files conn after)
+      → OverFiles g files left Does → DoneOver files left
+  called_over came over = Over (said_as g (λ conn after it. Called (came conn after it)) over)
+
+  -- a hub was used over the store that was there, whichever way
+  abbrev pub used_over : {files : Files D} {left : Option (Files D)} (register : RegisterValue)
+      {way : Way (Store (FileStore D g) Brand over_files)} → IsRegister register
+      → UsesStore g files left register way → DoneOver files left
+  used_over register is = called_over (λ conn after it.
+      Used register it.first it.commands it.responses is it.uses)
+
   -- where there is no store there was no connection, or a call that was refused
   abbrev pub declined : {files : Files D} {left : Option (Files D)} {refusal : StoreRefusal}
       {Why : Held (FileStore D g) → Held (FileStore D g) → Type 0}
       → ((conn after : Held (FileStore D g)) → Why conn after → IsRefused over_files conn after)
       → Declines g files left refusal Why → DoneOver files left
   declined so (NoConnection is fails) = Unconnected fails
-  declined so (HandedBack over) = Called (Declined (said_as g so over))
+  declined so (HandedBack over) =
+      called_over (λ conn after why. Refused (so conn after why)) over
 
   -- so it is where there is none of the register
   abbrev pub opens_none : {files : Files D} {left : Option (Files D)} (register : RegisterValue)
@@ -71,60 +95,18 @@ module _ {D : Type 0} (g : disk.Ghosts D) where
 
   -- Below, done says of a site between which states a deed can be.
   module _ {S : Type 0} (done : S → Deed D → S → Type 0) where
-    -- ---- what was done over the files that a command opened
-
-    abbrev pub made_in : (register : RegisterValue) → IsRegister register → (files : Files D)
-        {before after : S} {told : Result Said NoHub}
-        → MakesIn done g register files before after told → Opening
-    made_in register is files it = record {
+    -- what was done over the files that a command opened
+    abbrev pub opening_in : {T A : Type 0} {Does : Option (Files D) → T → Type 0}
+        {Lacks : Option (Files D) → StoreRefusal → Type 0}
+        {said_of : Result T StoreRefusal → Result A NoHub} {before after : S}
+        {told : Result A NoHub} (files : Files D)
+        (it : DoneIn done Does Lacks said_of before after told)
+        → ((how : T) → Does it.left how → DoneOver files it.left)
+        → ((refusal : StoreRefusal) → Lacks it.left refusal → DoneOver files it.left) → Opening
+    opening_in files it does lacks = record {
       files = files;
       left = it.left;
-      over = over_in it.held it.does it.lacks (λ said makes. MadeStore register is makes.1)
-          (λ refusal. declined (λ conn after why. why.refused));
-    }
-
-    abbrev pub asked_in : (register : RegisterValue) → IsRegister register → (call : Call)
-        (files : Files D) {before after : S} {told : Result Said NoHub}
-        → AsksIn done g call register files before after told → Opening
-    asked_in register is call files it = record {
-      files = files;
-      left = it.asks.left;
-      over = over_in it.asks.held it.asks.does it.asks.lacks
-          (λ said asks. Called (Asked register (asked call it.bytes) said is asks))
-          (opens_none register);
-    }
-
-    abbrev pub served_in : (register : RegisterValue) → IsRegister register → (files : Files D)
-        {port connections : ℕ} {had has : Option (List ℕ)} {before after : S}
-        {told : Result (Option ℕ) NoHub}
-        → ServesIn done g port connections had has register files before after told → Opening
-    served_in register is files it = record {
-      files = files;
-      left = it.left;
-      over = over_in it.held it.serves it.none
-          (λ how serves. Called (Served register MOST_REQUESTS how it.met is serves))
-          (opens_none register);
-    }
-
-    abbrev pub grown_in : (register grown : RegisterValue) → IsRegister register → IsRegister grown
-        → (files : Files D) {before after : S} {told : Result Said NoHub}
-        → GrowsIn done g register grown files before after told → Opening
-    grown_in register grown is are files it = record {
-      files = files;
-      left = it.left;
-      over = over_in it.held it.does it.lacks
-          (λ how extends. Called (Extended register grown how is are extends))
-          (opens_none register);
-    }
-
-    abbrev pub migrated_in : (register : RegisterValue) (files : Files D) {before after : S}
-        {told : Result Said NoHub} → MigratesIn done g register files before after told → Opening
-    migrated_in register files it = record {
-      files = files;
-      left = it.left;
-      over = over_in it.held it.does it.lacks
-          (λ how migrates. Called (Migrated register how migrates))
-          (λ refusal. declined (λ conn after why. why.0.refused));
+      over = over_in it.held it.does it.lacks does lacks;
     }
 
     -- ---- which openings a command made
@@ -155,23 +137,17 @@ module _ {D : Type 0} (g : disk.Ghosts D) where
           {before after : S} {told : Result (Option ℕ) NoHub}
           → ServesOnce done g places port connections had has before after told → List Opening
       opened_by_serving_once = with_register (λ register is found.
-          with_files (λ files opened it. served_in register is files it))
+          with_files (λ files opened it. opening_in files it.serves
+          (λ how serves. used_over register is serves) (opens_none register)))
 
-      -- those behind which so many connections are left
-      abbrev pub opened_before : {connections : ℕ} {before : S} {left : ℕ} {after : S}
-          → AreLeft done g places port connections before left after → List Opening
-      opened_before All = []
-      opened_before (Fewer left served rest between after are once is) =
-          opened_before are ++ opened_by_serving_once once
-
-      -- those, and the one behind which nobody was answered any more
-      abbrev pub opened_by_serving_rest : {connections : ℕ} {before after : S} {ending : Ending}
-          → ServesRest done g places port connections before after ending → List Opening
-      opened_by_serving_rest (Whole are) = opened_before are
-      opened_by_serving_rest (Untold left between are once) =
-          opened_before are ++ opened_by_serving_once once
-      opened_by_serving_rest (NoMore left between why are once) =
-          opened_before are ++ opened_by_serving_once once
+      -- those behind the first
+      abbrev pub opened_by_serving_rest : {left : ℕ} {before after : S} {ending : Ending}
+          → ServesRest done g places port left before after ending → List Opening
+      opened_by_serving_rest (Whole site) = []
+      opened_by_serving_rest (More left served before between after ending once rest) =
+          opened_by_serving_once once ++ opened_by_serving_rest rest
+      opened_by_serving_rest (Untold left before after once) = opened_by_serving_once once
+      opened_by_serving_rest (NoMore left before after why once) = opened_by_serving_once once
 
       -- the first, and those behind it
       abbrev pub opened_by_serving : {connections : ℕ} {had has : Option (List ℕ)}
@@ -191,16 +167,23 @@ module _ {D : Type 0} (g : disk.Ghosts D) where
           → EndsAt done g text most before after through command ending → List Opening
       opened_by_command Play ending it = []
       opened_by_command (Init places) ending it = with_register (λ register is found.
-          with_files (λ files opened makes. made_in register is files makes)) it.works
+          with_files (λ files opened makes. opening_in files makes
+          (λ said it. made_over register is it.1)
+          (λ refusal. declined (λ conn after why. why.refused)))) it.works
       opened_by_command (Ask places call) ending it = with_register (λ register is found.
-          with_files (λ files opened asks. asked_in register is call files asks)) it.works
+          with_files (λ files opened it. opening_in files it.asks
+          (λ said asks. used_over register is asks) (opens_none register))) it.works
       opened_by_command (Serve places serving) ending it =
           opened_by_serving places serving.port it.0
       opened_by_command (Extend places path) ending it = with_register (λ register is found.
           with_register (λ grown are found.
-          with_files (λ files opened grows. grown_in register grown is are files grows))) it.works
+          with_files (λ files opened grows. opening_in files grows
+          (λ how. called_over (λ conn after it. Grew register grown how is are it))
+          (opens_none register)))) it.works
       opened_by_command (Migrate places) ending it = with_register (λ register is found.
-          with_files (λ files opened migrates. migrated_in register files migrates)) it.works
+          with_files (λ files opened migrates. opening_in files migrates
+          (λ how. called_over (λ conn after it. Moved register how it.0))
+          (λ refusal. declined (λ conn after why. why.0.refused)))) it.works
 
       -- nor does what is explained
       abbrev pub opened_by_meaning : {words : List (List ℕ)} {ending : Ending}
@@ -209,17 +192,10 @@ module _ {D : Type 0} (g : disk.Ghosts D) where
           opened_by_command command ending ends
       opened_by_meaning (Explained error means explains) = []
 
-      -- a conversation, or what the words mean
-      abbrev pub opened_at_words : (words : List (List ℕ)) (plays : Bool) (ending : Ending)
-          → EndsAtWords done g text most before after through words plays ending → List Opening
-      opened_at_words words true ending it = []
-      opened_at_words words false ending it = opened_by_meaning it
-
       -- none where the words or random bytes can't be read
       abbrev pub opened_by_words : (words : Option (List (List ℕ))) (random : Bool)
           (ending : Ending) → Ends done g text most before after through words random ending
           → List Opening
       opened_by_words None random ending it = []
       opened_by_words (Some words) false ending it = []
-      opened_by_words (Some words) true ending it =
-          opened_at_words words (asks_play words) ending it
+      opened_by_words (Some words) true ending it = opened_by_meaning it

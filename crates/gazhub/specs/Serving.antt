@@ -1,6 +1,6 @@
 -- What comes of connections that are answered over the store at a path.
-use Rattle.std.specs.Prelude.{◌≡◌, ◌-◌, ◌++◌, ℕ, List, [], ◌∷◌, map, Option, Some, None}
-use Rattle.std.specs.Prelude.{Result, Ok, Err, IfOk, IfErr, OnErr}
+use Rattle.std.specs.Prelude.{◌≡◌, ◌-◌, ℕ, List, [], ◌∷◌, map, Option, Some, None}
+use Rattle.std.specs.Prelude.{Result, Ok, Err, IfOk, OnErr}
 use Rattle.sqlite_disk.specs.declared.Disk as disk
 use Rattle.sqlite_disk.specs.declared.Files.{Files}
 use Rattle.gaz_kept.specs.declared.refusal.StoreRefusal.{StoreRefusal}
@@ -12,8 +12,9 @@ use Rattle.gaz_stored.specs.declared.attending.Unserved.{Unserved}
 use Rattle.gaz_stored.specs.declared.attending.Unserved.TheVariants.{NoPort, Unwritten}
 use Rattle.gaz_words.specs.declared.command.Places.{Places}
 use Rattle.gaz_filing.specs.Filing.{OpensNone, ServesStore}
-use Rattle.gazhub.specs.Sites.{Closed, Deed, Does, Listened, Met, WithFiles, WithRegister}
 use Rattle.gaz_stored.specs.declared.connections.TheConstants.{MOST_REQUESTS}
+use Rattle.gazhub.specs.Sites.{Deed, Does, Listened, Met, WithFiles, WithRegister}
+use Rattle.gazhub.specs.Working.{DoneIn}
 use Rattle.gazhub.specs.declared.ending.Ending.{Ending}
 use Rattle.gazhub.specs.declared.ending.Ending.TheVariants.{Done, Lost, NoHub, WriteFault}
 use Rattle.gazhub.specs.declared.files.NoHub.{NoHub as WhyNoHub}
@@ -35,17 +36,15 @@ module _ {S D : Type 0} (done : S → Deed D → S → Type 0) (g : disk.Ghosts 
   -- peers that came, at most so many, or nobody, and that is told
   pub record ServesIn (port connections : ℕ) (had has : Option (List ℕ)) (register : RegisterValue)
       (files : Files D) (before after : S) (told : Result (Option ℕ) WhyNoHub) : Type 0 where
-    pub left : Option (Files D)
-    pub held : Result (Result ℕ Unserved) StoreRefusal
     pub bound : Option ℕ
     pub met : List Meeting
-    pub does : Does done before (Listened port bound ∷ (map Met met ++ Closed left ∷ [])) after
-    pub announced : IsAnnounced bound had has held
-    pub serves : IfOk held (λ how. ServesStore g files left register MOST_REQUESTS how met)
-    pub some : IfOk held (λ served. IfOk served (AreSome connections))
-    pub none : IfErr held (OpensNone g files left register)
-    pub nobody : OnErr held (met ≡ [])
-    pub told_is : told ≡ said_of_serving held
+    pub between : S
+    pub does : Does done before (Listened port bound ∷ map Met met) between
+    pub serves : DoneIn done (λ left how. ServesStore g files left register MOST_REQUESTS how met)
+        (λ left. OpensNone g files left register) said_of_serving between after told
+    pub announced : IsAnnounced bound had has serves.held
+    pub some : IfOk serves.held (λ served. IfOk served (AreSome connections))
+    pub nobody : OnErr serves.held (met ≡ [])
 
   -- Below, the register and the store are at the places, and the connections come to the port, that
   -- the words name.
@@ -56,24 +55,19 @@ module _ {S D : Type 0} (done : S → Deed D → S → Type 0) (g : disk.Ghosts 
     ServesOnce connections had has = WithRegister done places.register.now (λ register.
         WithFiles done places.store.now Use (ServesIn port connections had has register))
 
-    -- of so many connections these are left, behind openings of the store each of which answered
-    -- some
-    pub data AreLeft (connections : ℕ) (before : S) : ℕ → S → Type 0 where
-      All : AreLeft connections before connections before
-      Fewer : (left served rest : ℕ) (between after : S) → AreLeft connections before left between
-          → ServesOnce left None None between after (Ok (Some served)) → rest ≡ left - served
-          → AreLeft connections before rest after
-
-    -- none was left; or those that were left weren't answered any more: the store was lost, or it
-    -- couldn't be said where they come, which behind the first opening nobody asks
-    pub data ServesRest (connections : ℕ) (before after : S) : Ending → Type 0 where
-      Whole : AreLeft connections before 0 after → ServesRest connections before after Done
-      Untold : (left : ℕ) (between : S) → AreLeft connections before left between
-          → ServesOnce left None None between after (Ok None)
-          → ServesRest connections before after WriteFault
-      NoMore : (left : ℕ) (between : S) (why : WhyNoHub) → AreLeft connections before left between
-          → ServesOnce left None None between after (Err why)
-          → ServesRest connections before after (Lost why)
+    -- of so many connections that are left: none was; or the store is opened again, some of them
+    -- are answered, and then the rest; or no more were answered: the store was lost, or it couldn't
+    -- be said where they come, which behind the first opening nobody asks
+    pub data ServesRest : ℕ → S → S → Ending → Type 0 where
+      Whole : (site : S) → ServesRest 0 site site Done
+      More : (left served : ℕ) (before between after : S) (ending : Ending)
+          → ServesOnce left None None before between (Ok (Some served))
+          → ServesRest (left - served) between after ending → ServesRest left before after ending
+      Untold : (left : ℕ) (before after : S) → ServesOnce left None None before after (Ok None)
+          → ServesRest left before after WriteFault
+      NoMore : (left : ℕ) (before after : S) (why : WhyNoHub)
+          → ServesOnce left None None before after (Err why)
+          → ServesRest left before after (Lost why)
 
     -- the first opening says where connections come; a store that failed is opened again
     pub data ServeComesTo (connections : ℕ) (had has : Option (List ℕ)) (before after : S)

@@ -2,23 +2,22 @@
 -- over these is one run of one hub.
 use Rattle.std.specs.Prelude.{◌≡◌, ⊤, ◌++◌, ℕ, Bool, List, [], ◌∷◌, map, Option, Some}
 use Rattle.sqlite.specs.Effect.{Database}
-use Rattle.sqlite.specs.Files.{file_state}
-use Rattle.sqlite.specs.Held.{Held}
+use Rattle.sqlite.specs.Files.{file_state, over_files}
 use Rattle.sqlite_disk.specs.declared.Disk as disk
 use Rattle.sqlite_disk.specs.declared.Files.{Files}
-use Rattle.sqlite_store.specs.declared.store.FileStore.{FileStore}
 use Rattle.gaz_register.specs.Registers.{IsRegister, RegisterValue}
 use Rattle.gaz_tables.specs.Creating.{HasRoom}
-use Rattle.gaz_calls.specs.Seen.{IsUnharmed}
 use Rattle.gaz_steps.specs.Step.{new_hub}
 use Rattle.gaz_exchange.specs.Conversing.{Transfer}
+use Rattle.gaz_stored.specs.Calls.{IsFoundAfter, Moved}
 use Rattle.gaz_stored.specs.Migrating.{FirstStandForRun, StandsMoved}
 use Rattle.gaz_stored.specs.Runs.{GoesOn, IsStoreOf}
 use Rattle.gaz_stored.specs.declared.migrating.Migration.{Migration}
 use Rattle.gaz_filing.specs.Filing.{Makes, MigratesStore, OverFiles}
-use Rattle.gaz_filing.specs.Joined.{AreOne, CallOver, EndedWhole, FileCall, Migrated, came_over}
+use Rattle.gaz_filing.specs.Joined.{AreOne, EndedWhole, FileCall}
 use Rattle.gazhub.specs.Commands.{Commands}
-use Rattle.gazhub.specs.Openings.{Called, MadeStore, Opening, opened_by_words}
+use Rattle.gazhub.specs.Openings.{DoneOver, Opening, Over, Unconnected, called_over, made_over}
+use Rattle.gazhub.specs.Openings.{opened_by_words}
 use Rattle.gazhub.specs.Sites.{Closed, Deed, Opened}
 
 -- what a deed makes of a store's files: those that are opened were there, those that are closed are
@@ -44,54 +43,106 @@ module _ {D : Type 0} (g : disk.Ghosts D) where
 
   -- ---- what was done over the files they opened
 
-  -- it was a call
-  pub record IsCall (opening : Opening g) : Type 0 where
-    pub call : CallOver g opening.files opening.left
-    pub is_it : opening.over ≡ Called call
-
-  abbrev pub AreCalls : List (Opening g) → Type 0
-  AreCalls [] = ⊤
-  AreCalls (opening ∷ later) = IsCall opening × AreCalls later
-
-  -- the database that a call found
-  abbrev pub found_by : {opening : Opening g} → IsCall opening → Database
-  found_by is = (file_state (came_over g is.call).conn).now
-
-  -- the connection that it closed
-  abbrev pub closed_by : {opening : Opening g} → IsCall opening → Held (FileStore D g)
-  closed_by is = (came_over g is.call).after
-
-  -- no failure shut the connection of the last of them; where there is none, this one
-  abbrev pub EndOpen : Held (FileStore D g) → (openings : List (Opening g)) → AreCalls openings
+  -- there was a connection to a database
+  abbrev pub IsConnected : {files : Files D} {left : Option (Files D)} → DoneOver g files left
       → Type 0
-  EndOpen closed [] calls = IsUnharmed (file_state closed)
-  EndOpen closed (opening ∷ later) calls = EndOpen (closed_by calls.0) later calls.1
+  IsConnected (Over over) = ⊤
+  IsConnected (Unconnected fails) = ⊥
+
+  abbrev pub HadConnections : List (Opening g) → Type 0
+  HadConnections [] = ⊤
+  HadConnections (opening ∷ later) = IsConnected opening.over × HadConnections later
+
+  -- it found this database
+  abbrev pub HasFound : {files : Files D} {left : Option (Files D)} → DoneOver g files left
+      → Database → Type 0
+  HasFound (Over over) db = (file_state over.conn).now ≡ db
+  HasFound (Unconnected fails) db = ⊥
+
+  -- and this is found after it: what its connection shows, or what a stop left of it
+  abbrev pub IsFoundBehind : {files : Files D} {left : Option (Files D)} → DoneOver g files left
+      → Database → Type 0
+  IsFoundBehind (Over over) db = IsFoundAfter over_files over.conn over.after db
+  IsFoundBehind (Unconnected fails) db = ⊥
+
+  -- an opening, and what is found after it
+  pub record Ended : Type 0 where
+    pub opening : Opening g
+    pub found : Database
+    pub is_found : IsFoundBehind opening.over found
+
+  -- openings, one after another, each with its connection, and what is found after the last
+  pub record Stretch : Type 0 where
+    pub earlier : List (Opening g)
+    pub had : HadConnections earlier
+    pub last : Ended
+
+  abbrev pub openings_of : Stretch → List (Opening g)
+  openings_of it = it.earlier ++ it.last.opening ∷ []
+
+  abbrev pub first_of : List (Opening g) → Opening g → Opening g
+  first_of [] last = last
+  first_of (opening ∷ later) last = opening
+
+  -- the first of them found this database
+  abbrev pub FirstFound : Stretch → Database → Type 0
+  FirstFound it db = HasFound (first_of it.earlier it.last.opening).over db
+
+  -- the first finds this database, and each of the others what is found after the one before
+  abbrev pub FollowOn : Database → List Stretch → Type 0
+  FollowOn db [] = ⊤
+  FollowOn db (stretch ∷ later) = FirstFound stretch db × FollowOn stretch.last.found later
+
+  -- ---- which calls these were
 
   -- the opening in which a call is made
   abbrev pub opening_for : FileCall g → Opening g
-  opening_for call = record { files = call.files; left = call.left; over = Called call.call }
+  opening_for call = record {
+    files = call.files;
+    left = call.left;
+    over = called_over g (λ conn after came. came) call.over;
+  }
+
+  -- and what is found after it
+  abbrev pub ended_for : FileCall g → Ended
+  ended_for call = record {
+    opening = opening_for call;
+    found = call.found;
+    is_found = call.is_found;
+  }
 
   abbrev pub AllEndedWhole : List (FileCall g) → Type 0
   AllEndedWhole [] = ⊤
   AllEndedWhole (call ∷ later) = EndedWhole g call × AllEndedWhole later
 
-  -- they are calls, each of which ended whole, and one run of one hub from what a database stands
-  -- for
-  pub record AreOneRun (register : RegisterValue) (db : Database) (openings : List (Opening g))
+  -- a stretch is these calls, of which all but the last ended whole
+  pub record AreCallsOf (stretch : Stretch) (calls : List (FileCall g)) : Type 0 where
+    pub whole : List (FileCall g)
+    pub last : FileCall g
+    pub are : calls ≡ whole ++ last ∷ []
+    pub earlier_are : stretch.earlier ≡ map opening_for whole
+    pub ended_whole : AllEndedWhole whole
+    pub last_is : stretch.last ≡ ended_for last
+
+  abbrev pub AreCallsOfAll : List Stretch → List (FileCall g) → Type 0
+  AreCallsOfAll [] calls = calls ≡ []
+  AreCallsOfAll (stretch ∷ later) calls = (own : List (FileCall g)) × (rest : List (FileCall g))
+      × AreCallsOf stretch own × AreCallsOfAll later rest × (calls ≡ own ++ rest)
+
+  -- they are calls, and one run of one hub from what a database stands for
+  pub record AreOneRun (register : RegisterValue) (db : Database) (stretches : List Stretch)
       : Type 0 where
     pub calls : List (FileCall g)
-    pub are : openings ≡ map opening_for calls
-    pub whole : AllEndedWhole calls
+    pub are : AreCallsOfAll stretches calls
     pub one : AreOne g register db calls
 
-  -- ---- what the first of them did
+  -- ---- what one before them did
 
   -- a store of the register was made, where there was room for one
   pub record MakesFirst (register : RegisterValue) (opening : Opening g) : Type 0 where
     pub is : IsRegister register
-    pub over : OverFiles g opening.files opening.left
-        (Makes g opening.files opening.left register)
-    pub is_it : opening.over ≡ MadeStore register is over
+    pub over : OverFiles g opening.files opening.left (Makes g register)
+    pub is_it : opening.over ≡ made_over g register is over
     pub room : HasRoom (file_state over.conn).now.schema
 
   -- tables of schema 1, which stood for a partial run, were migrated to a store of the register
@@ -99,7 +150,7 @@ module _ {D : Type 0} (g : disk.Ghosts D) where
     pub is : IsRegister register
     pub told : Migration
     pub over : MigratesStore g opening.files opening.left register told
-    pub is_it : opening.over ≡ Called (Migrated register told over)
+    pub is_it : opening.over ≡ called_over g (λ conn after it. Moved register told it.0) over
     pub stood : FirstStandForRun register (file_state over.conn).now
 
   -- ---- commands
@@ -133,33 +184,47 @@ module _ {D : Type 0} (g : disk.Ghosts D) where
         opened_by_words g done text most given.before given.after given.through given.words
         given.random given.came.ending given.came.ends ++ openings_in later
 
-    -- what commands that are given in turn did to a store's files
-    pub record AreOneSession (files : S → Option (Files D)) (before after : S) (given : List Given)
-        : Type 0 where
-      -- each opening finds what the one before gave back
-      pub linked : AreLinked (files before) (openings_in given) (files after)
-      -- where the first finds a store, they are one run of one hub over it
-      pub opened : (register : RegisterValue) (first : Opening g) (later : List (Opening g))
-          → openings_in given ≡ first ∷ later → (is : IsCall first) → (calls : AreCalls later)
-          → EndOpen (closed_by is) later calls
-          → IsRegister register → IsStoreOf register (found_by is)
-          → AreOneRun register (found_by is) (first ∷ later)
-      -- where it makes one, of a hub that was asked nothing, those behind it are
-      pub made : (register : RegisterValue) (first : Opening g) (later : List (Opening g))
-          → openings_in given ≡ first ∷ later → (makes : MakesFirst register first)
-          → (calls : AreCalls later) → EndOpen makes.over.after later calls
-          → GoesOn register new_hub [] [] (file_state makes.over.after).now
-          × AreOneRun register (file_state makes.over.after).now later
-      -- and so are those behind one that migrates one, of the hub that its tables stood for
-      pub moved : (register : RegisterValue) (first : Opening g) (later : List (Opening g))
-          → openings_in given ≡ first ∷ later → (moves : MovesFirst register first)
-          → (calls : AreCalls later) → EndOpen moves.over.after later calls
-          → StandsMoved register (file_state moves.over.conn).now
-          (file_state moves.over.after).now
-          × AreOneRun register (file_state moves.over.after).now later
+    -- commands given in turn, up to a stop or the end, and of the openings that they made the
+    -- stretch that is looked at: the last of them, behind one by which the store was made or
+    -- migrated
+    pub record Session : Type 0 where
+      pub before : S
+      pub after : S
+      pub given : List Given
+      pub in_turn : AreGivenInTurn before given after
+      pub past : List (Opening g)
+      pub stretch : Stretch
+      pub are : openings_in given ≡ past ++ openings_of stretch
 
-    -- at a site that keeps a store's files
+    abbrev pub stretches_of : List Session → List Stretch
+    stretches_of = map (λ session. session.stretch)
+
+    -- this is the opening before those that are looked at
+    abbrev pub IsBefore : Opening g → Session → Type 0
+    IsBefore opening session =
+        (past : List (Opening g)) × (session.past ≡ past ++ opening ∷ [])
+
+    -- what commands do to a store's files, at a site that keeps these
+    pub record AreOneOver (files : S → Option (Files D)) : Type 0 where
+      -- each opening finds what the one before gave back
+      pub linked : (before after : S) (given : List Given) → AreGivenInTurn before given after
+          → AreLinked (files before) (openings_in given) (files after)
+      -- behind one that makes a store is found that of a hub that was asked nothing
+      pub made : (register : RegisterValue) (session : Session) (opening : Opening g)
+          (db : Database) → IsBefore opening session → MakesFirst register opening
+          → FirstFound session.stretch db → GoesOn register new_hub [] [] db
+      -- and behind one that migrates one, that of the hub that its tables stood for
+      pub moved : (register : RegisterValue) (session : Session) (opening : Opening g)
+          (db : Database) → IsBefore opening session → (moves : MovesFirst register opening)
+          → FirstFound session.stretch db
+          → StandsMoved register (file_state moves.over.conn).now db
+      -- over a store that the first of them finds they are one run of one hub, however many
+      -- sessions there are, each of which finds what is found after the one before, and however
+      -- many of them end in a stop: each opening is a call, and none makes a store again
+      pub opened : (register : RegisterValue) (db : Database) (sessions : List Session)
+          → IsRegister register → IsStoreOf register db → FollowOn db (stretches_of sessions)
+          → AreOneRun register db (stretches_of sessions)
+
+    -- whatever is kept of them
     abbrev pub SessionsAreOne : Type 0
-    SessionsAreOne = (files : S → Option (Files D)) (before after : S) (given : List Given)
-        → KeepsFiles done files → AreGivenInTurn before given after
-        → AreOneSession files before after given
+    SessionsAreOne = (files : S → Option (Files D)) → KeepsFiles done files → AreOneOver files

@@ -45,17 +45,12 @@ abbrev pub of_store : {A : Type 0} → Result A StoreRefusal → Result A NoHub
 of_store (Ok told) = Ok told
 of_store (Err refusal) = Err (none.Store refusal)
 
--- why what was read gives no register
-abbrev pub IsWhy : Option (List ℕ) → NoHub → Type 0
-IsWhy None why = why ≡ none.Unreadable
-IsWhy (Some text) why =
-    (fault : RegFault) × (OrMemory (Err fault) (register_of text) × (why ≡ none.Register fault))
-
 -- the register that was read, or why there is none
 abbrev pub IsRegisterOf : Option (List ℕ) → Result RegisterValue NoHub → Type 0
-IsRegisterOf bytes (Err why) = IsWhy bytes why
-IsRegisterOf None (Ok register) = ⊥
+IsRegisterOf None found = found ≡ Err none.Unreadable
 IsRegisterOf (Some text) (Ok register) = register_of text ≡ Ok register
+IsRegisterOf (Some text) (Err why) =
+    (fault : RegFault) × OrMemory (Err fault) (register_of text) × (why ≡ none.Register fault)
 
 -- Below, done says of a site between which of its states a deed can be.
 module _ {S D : Type 0} (done : S → Deed D → S → Type 0) where

@@ -1,26 +1,29 @@
 -- Worked examples on commands that are given one after another.
 use Rattle.std.specs.Prelude.{◌≡◌, ℕ, Bool, List, [], ◌∷◌, Option, Some, None, Result}
 use Rattle.std.specs.Prelude.{Err, refl}
+use Rattle.sqlite.specs.Effect.{Database}
 use Rattle.sqlite.specs.Files.{file_state, over_files}
-use Rattle.sqlite.specs.Held.{Held}
 use Rattle.sqlite_disk.specs.declared.Disk as disk
 use Rattle.sqlite_disk.specs.declared.Files.{Files}
-use Rattle.sqlite_store.specs.declared.store.FileStore.{FileStore}
 use Rattle.gaz_register.specs.Registers.{IsRegister, RegisterValue}
 use Rattle.gaz_kept.specs.declared.refusal.StoreRefusal.TheVariants.{Fault}
 use Rattle.gaz_calls.specs.Seen.{IsUnharmed}
 use Rattle.gaz_store.specs.Opened.{IsRefused}
 use Rattle.gaz_exchange.specs.Conversing.{Transfer}
 use Rattle.gaz_commands.specs.declared.said.Said.{Said}
+use Rattle.gaz_stored.specs.Calls.{Refused}
 use Rattle.gaz_stored.specs.Meetings.{Meeting}
+use Rattle.gaz_stored.specs.Stopping.{LeavesItself, MayBeLeft}
 use Rattle.gaz_filing.specs.Filing.{FailsToConnect, Makes, OverFiles}
-use Rattle.gaz_filing.specs.Joined.{Declined}
+use Rattle.gaz_filing.specs.Joined.{EndedWhole, FileCall}
 use Rattle.gazhub.specs.Commands.{Ends}
 use Rattle.gazhub.specs.Desks.{IsDone}
-use Rattle.gazhub.specs.Openings.{Called, DoneOver, MadeStore, Opening, Unconnected}
+use Rattle.gazhub.specs.Openings.{DoneOver, Opening, Unconnected, called_over, made_over}
 use Rattle.gazhub.specs.Openings.{opened_by_words}
 use Rattle.gazhub.specs.Openings as openings
-use Rattle.gazhub.specs.Sessions.{AreLinked, EndOpen, IsCall, IsLeftBy, KeepsFiles}
+use Rattle.gazhub.specs.Sessions.{AreCallsOf, AreLinked, Ended, FollowOn, HasFound, IsConnected}
+use Rattle.gazhub.specs.Sessions.{IsFoundBehind, IsLeftBy, KeepsFiles, Stretch, ended_for}
+use Rattle.gazhub.specs.Sessions.{opening_for}
 use Rattle.gazhub.specs.Sites.{Closed, Deed, HasFiles, Listened, Met, NoFiles, Opened, Read}
 use Rattle.gazhub.specs.Sites.{WithFiles}
 use Rattle.gazhub.specs.declared.ending.Ending.{Ending}
@@ -44,13 +47,28 @@ module _ {S D : Type 0} (done : S → Deed D → S → Type 0) (g : disk.Ghosts 
   abbrev pub opening_of : (files : Files D) → DoneOver g files (Some files) → Opening g
   opening_of files over = record { files = files; left = Some files; over = over }
 
-  -- a call that was refused
-  module _ (files : Files D) (over : OverFiles g files (Some files) (IsRefused over_files)) where
-    abbrev pub refused_over : Opening g
-    refused_over = opening_of files (Called (Declined over))
+  -- and this is found after it
+  abbrev pub ended_at : (files : Files D) (over : DoneOver g files (Some files)) (db : Database)
+      → IsFoundBehind g over db → Ended g
+  ended_at files over db is_found =
+      record { opening = opening_of files over; found = db; is_found = is_found }
 
-    abbrev pub is_call : IsCall g refused_over
-    is_call = record { call = Declined over; is_it = refl }
+  -- a call was refused
+  abbrev pub refused : (files : Files D)
+      → OverFiles g files (Some files) (IsRefused over_files) → DoneOver g files (Some files)
+  refused files = called_over g (λ conn after it. Refused it)
+
+  -- no connection was had, and the files are as they were
+  abbrev pub unconnected : (files : Files D) → FailsToConnect g files files
+      → DoneOver g files (Some files)
+  unconnected files = Unconnected
+
+  -- a stretch of one opening, and one of two
+  abbrev pub alone : Ended g → Stretch g
+  alone last = record { earlier = []; had = tt; last = last }
+
+  abbrev pub behind_one : (opening : Opening g) → IsConnected g opening.over → Ended g → Stretch g
+  behind_one opening had last = record { earlier = opening ∷ []; had = (had, tt); last = last }
 
   pub record WorkedSessions : Type 0 where
     -- where its files are found they are gone from there, until they are closed
@@ -98,17 +116,43 @@ module _ {S D : Type 0} (done : S → Deed D → S → Type 0) (g : disk.Ghosts 
         → AreLinked g (Some files) (one ∷ other ∷ []) other.left
     pub not_again : (files : Files D) (one other : Opening g) (has : Option (Files D))
         → one.left ≡ None → ¬ AreLinked g (Some files) (one ∷ other ∷ []) has
-    -- a call that was refused is a call, and no other opening is
-    pub called : (files : Files D) (over : OverFiles g files (Some files) (IsRefused over_files))
-        → IsCall g (refused_over files over)
+    -- one that was refused and one that made a store had a connection
+    pub refused_had : (files : Files D)
+        (over : OverFiles g files (Some files) (IsRefused over_files))
+        → IsConnected g (refused files over)
+    pub making_had : (register : RegisterValue) (is : IsRegister register) (files : Files D)
+        (over : OverFiles g files (Some files) (Makes g register))
+        → IsConnected g (made_over g register is over)
+    pub none_had : (files : Files D) (fails : FailsToConnect g files files)
+        → ¬ IsConnected g (unconnected files fails)
+    -- it found what its connection showed; and after it is found what that shows, where no failure
+    -- shut it, or what a stop left
+    pub refused_found : (files : Files D)
+        (over : OverFiles g files (Some files) (IsRefused over_files))
+        → HasFound g (refused files over) (file_state over.conn).now
+    pub whole : (files : Files D) (over : OverFiles g files (Some files) (IsRefused over_files))
+        → IsUnharmed (file_state over.after)
+        → IsFoundBehind g (refused files over) (file_state over.after).now
+    pub cut_off : (files : Files D) (over : OverFiles g files (Some files) (IsRefused over_files))
+        (db : Database) → LeavesItself (file_state over.conn)
+        → MayBeLeft (file_state over.after) db → IsFoundBehind g (refused files over) db
+    pub nothing_behind : (files : Files D) (fails : FailsToConnect g files files) (db : Database)
+        → ¬ IsFoundBehind g (unconnected files fails) db
+    -- of two stretches the second finds what is found after the first
+    pub follow : (db : Database) (one other : Ended g) → HasFound g one.opening.over db
+        → HasFound g other.opening.over one.found → FollowOn g db (alone one ∷ alone other ∷ [])
+    pub not_follow : (db : Database) (one other : Ended g)
+        → ¬ HasFound g other.opening.over one.found
+        → ¬ FollowOn g db (alone one ∷ alone other ∷ [])
+    -- two calls are a stretch, of which the first ended whole
+    pub calls : (one other : FileCall g) → EndedWhole g one
+        → AreCallsOf g (behind_one (opening_for g one) tt (ended_for g other)) (one ∷ other ∷ [])
+    pub not_cut_off : (one other : FileCall g) → ¬ EndedWhole g one
+        → ¬ AreCallsOf g (behind_one (opening_for g one) tt (ended_for g other))
+        (one ∷ other ∷ [])
+    -- a store that was made is no call
     pub making : (register : RegisterValue) (is : IsRegister register) (files : Files D)
-        (over : OverFiles g files (Some files) (Makes g files (Some files) register))
-        → ¬ IsCall g (opening_of files (MadeStore register is over))
-    pub unconnected : (files : Files D) (fails : FailsToConnect g files files)
-        → ¬ IsCall g (opening_of files (Unconnected fails))
-    -- of two that were refused the connection of the second tells alone
-    pub ended : (files : Files D)
-        (one other : OverFiles g files (Some files) (IsRefused over_files))
-        (before : Held (FileStore D g)) → IsUnharmed (file_state other.after)
-        → EndOpen g before (refused_over files one ∷ refused_over files other ∷ [])
-        (is_call files one, (is_call files other, tt))
+        (over : OverFiles g files (Some files) (Makes g register))
+        (db : Database) (is_found : IsFoundBehind g (made_over g register is over) db)
+        (calls : List (FileCall g))
+        → ¬ AreCallsOf g (alone (ended_at files (made_over g register is over) db is_found)) calls

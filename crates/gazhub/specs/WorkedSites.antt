@@ -1,5 +1,5 @@
 -- Worked examples on what is done at a site, and on how the program ends.
-use Rattle.std.specs.Prelude.{◌≡◌, ◌≤◌, ◌++◌, [], ◌∷◌, ℕ, suc, true, List, map, Option, Some, None}
+use Rattle.std.specs.Prelude.{◌≡◌, ◌++◌, [], ◌∷◌, ℕ, suc, true, List, map, Option, Some, None}
 use Rattle.std.specs.Prelude.{codes, Ok, Err}
 use Rattle.std.specs.Borrow.{Bor}
 use Rattle.clap.specs.declared.error.kind.ErrorKind.TheVariants as kind
@@ -14,7 +14,7 @@ use Rattle.gaz_words.specs.declared.command.Call.TheVariants.{Status, Submit}
 use Rattle.gaz_words.specs.declared.command.Places.{Places}
 use Rattle.gazhub.specs.Commands.{IsExplained, IsTold}
 use Rattle.gazhub.specs.Desks.{IsReadOf, text_at}
-use Rattle.gazhub.specs.Serving.{AreLeft, ServesRest}
+use Rattle.gazhub.specs.Serving.{ServesRest}
 use Rattle.gazhub.specs.Sites.{Deed, Does, FindsRegister, Listened, Met, Opened, Read, ReadsFor}
 use Rattle.gazhub.specs.Sites.{WithFiles, any_length}
 use Rattle.gazhub.specs.declared.ending.Ending.TheVariants.{Done, Failed, NoHub, Usage}
@@ -68,15 +68,12 @@ module _ {D : Type 0} (g : disk.Ghosts D) where
     pub failed : (fault : CommandFault)
         → IsTold (Some []) (Some []) (said.Failed fault) (Failed fault)
     pub not_done : (fault : CommandFault) → ¬ IsTold (Some []) (Some []) (said.Failed fault) Done
-    -- behind no opening all connections are left, and behind any no more than were wanted
-    pub all_left : (places : Places) (port connections : ℕ) (site : List (Deed D))
-        → AreLeft noted g places port connections site connections site
-    pub none_more : (places : Places) (port connections : ℕ) (before : List (Deed D)) (left : ℕ)
-        (after : List (Deed D)) → AreLeft noted g places port connections before left after
-        → left ≤ connections
-    -- where no hub was there to begin with, none was lost
-    pub lost : (places : Places) (port connections : ℕ) (after : List (Deed D))
-        (why : WhyNoHub) → ¬ ServesRest noted g places port connections [] after (NoHub why)
+    -- where no connection is left, none is answered; and where no hub was there to begin with, none
+    -- was lost
+    pub none_left : (places : Places) (port : ℕ) (site : List (Deed D))
+        → ServesRest noted g places port 0 site site Done
+    pub lost : (places : Places) (port left : ℕ) (after : List (Deed D)) (why : WhyNoHub)
+        → ¬ ServesRest noted g places port left [] after (NoHub why)
     -- what is unknown is a fault of usage, and help is none
     pub usage : IsExplained kind.UnknownArgument Usage
     pub not_done_well : ¬ IsExplained kind.UnknownArgument Done

@@ -15,13 +15,13 @@ use Rattle.gazhub.specs.Sites.{Closed, Deed, ReadsFor, WithFiles, WithRegister, 
 use Rattle.gazhub.specs.declared.files.NoHub.{NoHub}
 use Rattle.gazhub.specs.declared.site.Purpose.TheVariants as purpose
 
--- Below, g is what is seen of a disk, and done says of a site between which states a deed can be.
-module _ {S D : Type 0} (done : S → Deed D → S → Type 0) (g : disk.Ghosts D) where
+-- Below, done says of a site between which states a deed can be.
+module _ {S D : Type 0} (done : S → Deed D → S → Type 0) where
   -- what was to be done over the store in these files was done, or there was none, and that is told
-  pub record DoneIn {T : Type 0} (Does : Option (Files D) → T → Type 0)
+  pub record DoneIn {T A : Type 0} (Does : Option (Files D) → T → Type 0)
       (Lacks : Option (Files D) → StoreRefusal → Type 0)
-      (said_of : Result T StoreRefusal → Result Said NoHub) (before after : S)
-      (told : Result Said NoHub) : Type 0 where
+      (said_of : Result T StoreRefusal → Result A NoHub) (before after : S)
+      (told : Result A NoHub) : Type 0 where
     pub left : Option (Files D)
     pub held : Result T StoreRefusal
     pub does : IfOk held (Does left)
@@ -29,20 +29,22 @@ module _ {S D : Type 0} (done : S → Deed D → S → Type 0) (g : disk.Ghosts 
     pub told_is : told ≡ said_of held
     pub closed : done before (Closed left) after
 
+-- Below, g is what is seen of a disk.
+module _ {S D : Type 0} (done : S → Deed D → S → Type 0) (g : disk.Ghosts D) where
   -- a store of the register was made
   abbrev pub MakesIn : RegisterValue → Files D → S → S → Result Said NoHub → Type 0
   MakesIn register files =
-      DoneIn (λ left. MakesStore g files left register)
+      DoneIn done (λ left. MakesStore g files left register)
       (λ left. MakesNone g files left register) of_store
 
   -- its register was to grow
   abbrev pub GrowsIn : RegisterValue → RegisterValue → Files D → S → S → Result Said NoHub → Type 0
-  GrowsIn register grown files = DoneIn (λ left. ExtendsStore g files left register grown)
+  GrowsIn register grown files = DoneIn done (λ left. ExtendsStore g files left register grown)
       (λ left. OpensNone g files left register) said_of_growth
 
   -- it was to be migrated
   abbrev pub MigratesIn : RegisterValue → Files D → S → S → Result Said NoHub → Type 0
-  MigratesIn register files = DoneIn (λ left. MigratesStore g files left register)
+  MigratesIn register files = DoneIn done (λ left. MigratesStore g files left register)
       (λ left. MigratesNone g files left register) said_of_migration
 
   -- a hub of the register over it was asked; a submission was of the bytes that were read
@@ -51,7 +53,7 @@ module _ {S D : Type 0} (done : S → Deed D → S → Type 0) (g : disk.Ghosts 
     pub bytes : Option (List ℕ)
     pub between : S
     pub reads : ReadsFor done before between call bytes
-    pub asks : DoneIn (λ left. AsksStore g files left register (asked call bytes))
+    pub asks : DoneIn done (λ left. AsksStore g files left register (asked call bytes))
         (λ left. OpensNone g files left register) of_store between after told
 
   -- the register and then the store are looked for at the places that the words name, to make

@@ -52,16 +52,9 @@ fn serve_in<S: Site, W: Write>(
     ensures some { IfOk result (λ told. IfSome told (AreSome serving.connections)) }
 {
     let port = site.listen(serving.port);
+    let wanted = serving.connections;
     let FilesBack { left, told: held } = serve_store(
-        alloc,
-        files,
-        options,
-        seed,
-        register,
-        port,
-        site,
-        w,
-        serving.connections,
+        alloc, files, options, seed, register, port, site, w, wanted,
     );
     site.close(left);
     said_of_serving(held)

@@ -1,7 +1,6 @@
 //! How the program ends.
 ghost use Rattle.std.specs.Prelude.{◌≡◌};
-ghost use Rattle.gazhub.specs.Endings.{line_of, no_hub_line, refusal_line, register_line};
-ghost use Rattle.gazhub.specs.Endings.{status_of};
+ghost use Rattle.gazhub.specs.Endings.{line_of, no_hub_line, status_of};
 
 use crate::files::NoHub;
 use gaz_commands::CommandFault;
@@ -31,44 +30,25 @@ pub enum Ending {
     Failed(CommandFault),
 }
 
-// The line that names the fault of a register.
-fn register_line(fault: RegFault) -> &'static str
-    ensures { result.now ≡ register_line fault }
-{
-    match fault {
-        RegFault::NotToml => "gazhub: NotToml\n",
-        RegFault::Shape => "gazhub: Shape\n",
-        RegFault::TooMany => "gazhub: TooMany\n",
-        RegFault::BadCode => "gazhub: BadCode\n",
-        RegFault::BadName => "gazhub: BadName\n",
-        RegFault::BadBlock => "gazhub: BadBlock\n",
-        RegFault::SameCode => "gazhub: SameCode\n",
-        RegFault::Overlap => "gazhub: Overlap\n",
-        RegFault::Memory => "gazhub: Memory\n",
-    }
-}
-
-// The line that says why there is no store.
-fn refusal_line(refusal: StoreRefusal) -> &'static str
-    ensures { result.now ≡ refusal_line refusal }
-{
-    match refusal {
-        StoreRefusal::BadSchema => "gazhub: BadSchema\n",
-        StoreRefusal::OtherRegister => "gazhub: OtherRegister\n",
-        StoreRefusal::Fault => "gazhub: Fault\n",
-    }
-}
-
 // The line that says why there is no hub.
 fn no_hub_line(why: NoHub) -> &'static str
     ensures { result.now ≡ no_hub_line why }
 {
     match why {
         NoHub::Unreadable => "gazhub: Unreadable\n",
-        NoHub::Register(fault) => register_line(fault),
-        NoHub::Store(refusal) => refusal_line(refusal),
+        NoHub::Register(RegFault::NotToml) => "gazhub: NotToml\n",
+        NoHub::Register(RegFault::Shape) => "gazhub: Shape\n",
+        NoHub::Register(RegFault::TooMany) => "gazhub: TooMany\n",
+        NoHub::Register(RegFault::BadCode) => "gazhub: BadCode\n",
+        NoHub::Register(RegFault::BadName) => "gazhub: BadName\n",
+        NoHub::Register(RegFault::BadBlock) => "gazhub: BadBlock\n",
+        NoHub::Register(RegFault::SameCode) => "gazhub: SameCode\n",
+        NoHub::Register(RegFault::Overlap) => "gazhub: Overlap\n",
+        NoHub::Store(StoreRefusal::BadSchema) => "gazhub: BadSchema\n",
+        NoHub::Store(StoreRefusal::OtherRegister) => "gazhub: OtherRegister\n",
+        NoHub::Store(StoreRefusal::Fault) => "gazhub: Fault\n",
         NoHub::NoPort => "gazhub: NoPort\n",
-        NoHub::Memory => "gazhub: Memory\n",
+        NoHub::Register(RegFault::Memory) | NoHub::Memory => "gazhub: Memory\n",
     }
 }
 

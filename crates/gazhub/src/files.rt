@@ -60,18 +60,13 @@ pub fn open_files<S: Site>(
     ensures log { IfOk result (λ found. IsTrue (S.Medium.Disk.is_usable found.0.log)) }
     ensures db { IfOk result (λ found. IsTrue (S.Medium.Disk.is_usable found.0.db)) }
 {
-    match site.open(path, purpose) {
-        Some(found) => Ok(found),
-        None => Err(NoHub::Store(StoreRefusal::Fault)),
-    }
+    site.open(path, purpose)
+        .ok_or(NoHub::Store(StoreRefusal::Fault))
 }
 
 /// What is told of a store, or why there is none.
 pub fn of_store<A>(told: Result<A, StoreRefusal>) -> Result<A, NoHub>
     ensures { result ≡ of_store told }
 {
-    match told {
-        Ok(told) => Ok(told),
-        Err(refusal) => Err(NoHub::Store(refusal)),
-    }
+    told.map_err(NoHub::Store)
 }

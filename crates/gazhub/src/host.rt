@@ -65,51 +65,31 @@ impl<'a> Host<'a> {
         Ok(bytes)
     }
 
-    // How a store's files are used, where the database has so many bytes.
-    fn options_for(&self, bytes: u64) -> Option<Options> {
-        let salt = random(self.rt).ok()?;
-        let mut options = Options::new(salt);
-        options.cache_pages = pages_for(bytes);
-        Some(options)
-    }
-
-    // The bytes of the file at a path; none where nothing is there.
-    fn size_at(&self, path: &str) -> Option<u64> {
-        Some(fs::metadata(self.rt, path).ok()?.len())
-    }
-
     // Says what is being done with a store's file of so many bytes, where that takes over a second
     // and a person waits: standard error is a terminal. What can't be said is lost.
     fn announce(&self, bytes: u64, what: &str) {
         if bytes > BYTES_A_SECOND && self.rt.stderr().is_terminal() {
-            let _lost = eprintln!(self.rt; "{what}");
+            let _lost = eprintln!(self.rt; "{what} ..");
         }
     }
 
-    fn options_to_use(&self, path: &str) -> Option<Options> {
-        let bytes = self.size_at(path)?;
-        let options = self.options_for(bytes)?;
-        self.announce(bytes, "opening ..");
-        Some(options)
-    }
-
-    // What is written stays at hand as long as there is room, or the log would grow to many times
-    // the file.
-    fn options_to_migrate(&self, path: &str) -> Option<Options> {
-        let bytes = self.size_at(path)?;
-        let mut options = self.options_for(bytes.saturating_mul(2))?;
-        options.spill_pages = options.cache_pages;
-        self.announce(bytes, "migrating ..");
-        Some(options)
-    }
-
-    // How the files of a store at a path are used.
+    // How the files of a store at a path are used. What a migration writes stays at hand as long as
+    // there is room, or the log would grow to many times the file.
     fn options(&self, path: &str, purpose: Purpose) -> Option<Options> {
-        match purpose {
-            Purpose::Make => self.options_for(0),
-            Purpose::Use => self.options_to_use(path),
-            Purpose::Migrate => self.options_to_migrate(path),
+        let bytes = match purpose {
+            Purpose::Make => 0,
+            Purpose::Use | Purpose::Migrate => fs::metadata(self.rt, path).ok()?.len(),
+        };
+        let mut options = Options::new(random(self.rt).ok()?);
+        if matches!(purpose, Purpose::Migrate) {
+            options.cache_pages = pages_for(bytes.saturating_mul(2));
+            options.spill_pages = options.cache_pages;
+            self.announce(bytes, "migrating");
+        } else {
+            options.cache_pages = pages_for(bytes);
+            self.announce(bytes, "opening");
         }
+        Some(options)
     }
 }
 

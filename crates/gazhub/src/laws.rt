@@ -10,11 +10,12 @@ ghost use Rattle.gazhub.specs.declared.ending.Ending.{Ending};
 use crate::site::Site;
 use sqlite_disk::Disk;
 
-/// Commands one after another, as `command` says of each, at a site that keeps a store's files:
-/// over these they are one run of one hub, whatever their words and however often each of them
-/// opened the files. They begin with a store that is there, or that the first opening makes or
-/// migrates; each opening has its connection, and no failure shuts that of the last. A command that
-/// a stop cuts off is none of them.
+/// Sessions of commands, as `command` says of each, at a site that keeps a store's files: over
+/// these they are one run of one hub, whatever their words, however often each of them opened the
+/// files, and however many sessions end in a stop. They begin with a store that is there, or that
+/// an opening before makes or migrates; each opening has its connection, and each session finds
+/// what is found after the one before. None makes a store again: an `init` over one is refused. A
+/// command that never returned is none of them.
 pub fn sessions_are_one<S: Site>()
     ensures { (text : List ℕ) (most : ℕ) → SessionsAreOne S.Medium.Disk S.done text most }
 {}

@@ -8,10 +8,8 @@ mod commands;
 mod desk;
 mod ending;
 mod files;
-mod growing;
 mod host;
 mod laws;
-mod migrating;
 mod obeying;
 mod port;
 mod program;
@@ -39,10 +37,7 @@ fn buffered<P: Print>(alloc: Global, rt: &P) -> BufWriter<Printer<'_, P>> {
     if let Ok(w) = BufWriter::new(alloc, io::writer(rt)) {
         return w;
     }
-    match BufWriter::with_capacity(alloc, 0, io::writer(rt)) {
-        Ok(w) => w,
-        Err(_) => unreachable!(),
-    }
+    BufWriter::with_capacity(alloc, 0, io::writer(rt)).unwrap()
 }
 
 fn main(rt: HostRuntime) -> ExitCode {

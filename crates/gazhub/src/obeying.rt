@@ -7,11 +7,9 @@ ghost use Rattle.gazhub.specs.Commands.{IsFinished, IsShown, IsTold, Reports, en
 ghost use Rattle.gazhub.specs.Endings.{is_silent, line_of};
 
 use crate::attending::serve;
-use crate::commands::{ask, init};
+use crate::commands::{ask, extend, init, migrate};
 use crate::ending::Ending;
 use crate::files::NoHub;
-use crate::growing::extend;
-use crate::migrating::migrate;
 use crate::program::{MOST_OF_PLAY, play};
 use crate::sample::SAMPLE;
 use crate::site::Site;

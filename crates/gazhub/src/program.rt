@@ -42,9 +42,7 @@ fn new_store(
     ensures outside { IfSome result (λ conn. conn.in_transaction ≡ false) }
     ensures new { IfSome result (IsNew register.now) }
 {
-    let Some(conn) = new_database(alloc) else {
-        return None;
-    };
+    let conn = new_database(alloc)?;
     match Store::<_, Brand>::create(alloc, seed, conn, register) {
         Ok(store) => Some(store.into_connection()),
         Err(_) => None,
@@ -71,12 +69,8 @@ pub fn answer_all<R: Source, W: Sink>(
     ensures unheard { result ≡ None → IsUnheard
         (transfer R.remaining W.contents r.old r.new w.old w.new) }
 {
-    let Some(register) = sample_register(alloc) else {
-        return None;
-    };
-    let Some(conn) = new_store(alloc, seed, &register) else {
-        return None;
-    };
+    let register = sample_register(alloc)?;
+    let conn = new_store(alloc, seed, &register)?;
     let HandedBack {
         conn,
         at_hand,

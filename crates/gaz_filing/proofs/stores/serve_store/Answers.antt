@@ -1,8 +1,8 @@
 use Rattle.std.proofs.Common.{refl}
-use Rattle.std.proofs.lemmas.Result.{IfOk-weaker}
+use Rattle.std.proofs.lemmas.Result.{IfErr-weaker, IfOk-weaker}
 use Rattle.gaz_stored.proofs.Meetings.{with_same}
-use Rattle.gaz_filing.specs.Filing.{NoConnection}
-use Rattle.gaz_filing.proofs.Filing.{opens_none, over}
+use Rattle.gaz_filing.specs.Filing.{HandedBack, NoConnection}
+use Rattle.gaz_filing.proofs.Filing.{over}
 use Rattle.gaz_filing.proofs.stores.serve_store.Goals as goal
 
 pub returns-clause-served : goal.returns-clause-served
@@ -12,7 +12,7 @@ returns-clause-served g c =
 pub returns-clause-none : goal.returns-clause-none
 returns-clause-none g c =
     let served = c.serve_opened-conn in
-    opens_none _ c.args.files c.close-left.result c.in-Ok.conn served.result.conn c.in-Ok.ensures.had c.close-left.ensures c.args.register served.result.told served.ensures.lacks
+    IfErr-weaker served.result.told _ _ (λ why lacks. HandedBack (over _ c.args.files c.close-left.result c.in-Ok.conn served.result.conn c.in-Ok.ensures.had c.close-left.ensures _ lacks)) served.ensures.lacks
 
 pub returns-clause-many : goal.returns-clause-many
 returns-clause-many g c =

@@ -8,20 +8,17 @@ pub returns-clause-served : goal.returns-clause-served
 returns-clause-served g c =
     let listened = c.listen-port in
     let served = c.serve_store-left in
-    let came = met_in g.S.Site.done g.S.Peers.meets g.met.S.Site.tells g.S.Reader.Source.failed g.S.Writer.Sink.failed (ServesStore g.S.Medium.Disk c.args.files served.result.left c.args.register MOST_REQUESTS) served.result.left listened.new.self served.new.peers c.close.new.self
-    served.result.told served.ensures.served served.ensures.nobody c.close.ensures in
+    let came = met_in g.S.Site.done g.S.Peers.meets g.met.S.Site.tells g.S.Reader.Source.failed g.S.Writer.Sink.failed (ServesStore g.S.Medium.Disk c.args.files served.result.left c.args.register MOST_REQUESTS) listened.new.self served.new.peers
+    served.result.told served.ensures.served served.ensures.nobody in
     record {
-      left = served.result.left;
-      held = served.result.told;
       bound = listened.result;
       met = came.0;
+      between = served.new.peers;
       does = (listened.new.self, listened.ensures, came.1);
+      serves = record { left = served.result.left; held = served.result.told; does = came.2; lacks = served.ensures.none; told_is = c.said_of_serving.ensures; closed = c.close.ensures };
       announced = served.ensures.announced;
-      serves = came.2;
       some = served.ensures.many;
-      none = served.ensures.none;
       nobody = came.3;
-      told_is = c.said_of_serving.ensures;
     }
 
 pub returns-clause-silent : goal.returns-clause-silent

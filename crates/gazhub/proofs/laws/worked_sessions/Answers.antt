@@ -1,9 +1,18 @@
-use Rattle.std.proofs.Common.{◌∙◌, ℕ, List, Option, Some, None, ap, refl, sym}
+use Rattle.std.proofs.Common.{◌≡◌, ◌∙◌, ◌++◌, ℕ, List, [], ◌∷◌, Option, Some, None, ap, refl, subst, sym}
+use Rattle.std.specs.Prelude.{⊤}
+use Rattle.sqlite.specs.Effect.{Database}
+use Rattle.sqlite.specs.Held.{Held}
+use Rattle.sqlite_disk.specs.declared.Disk as disk
 use Rattle.sqlite_disk.specs.declared.Files.{Files}
+use Rattle.sqlite_store.specs.declared.store.FileStore.{FileStore}
+use Rattle.gaz_register.specs.Registers.{IsRegister, RegisterValue}
+use Rattle.gaz_stored.specs.Calls.{CutOff, Whole}
 use Rattle.gaz_stored.specs.Meetings.{Came, Left, Missed}
-use Rattle.gaz_filing.specs.Joined.{Declined}
+use Rattle.gaz_filing.specs.Filing.{Makes, OverFiles}
+use Rattle.gaz_filing.specs.Joined.{EndedWhole, FileCall}
 use Rattle.gazhub.specs.Desks.{IsDone}
-use Rattle.gazhub.specs.Sessions.{IsLeftBy}
+use Rattle.gazhub.specs.Openings.{Called, Did, DoneOver, MadeStore, Over, Unconnected, made_over}
+use Rattle.gazhub.specs.Sessions.{AllEndedWhole, AreCallsOf, Ended, IsFoundBehind, IsLeftBy, ended_for, opening_for}
 use Rattle.gazhub.specs.Sites.{Closed, Deed, Listened, Met, Opened, Read}
 use Rattle.gazhub.proofs.laws.worked_sessions.Goals as goal
 
@@ -17,6 +26,37 @@ module _ {S D : Type 0} (text : S → List ℕ → List ℕ) (files : S → Opti
   kept old new (Met Missed) done = done.2
   kept old new (Met (Came had held)) done = done.4
   kept old new (Met (Left left holds is_whole)) done = done.2
+
+module _ {D : Type 0} (g : disk.Ghosts D) where
+  abbrev AreTwo : List (FileCall g) → Type 0
+  AreTwo [] = ⊥
+  AreTwo (call ∷ []) = ⊥
+  AreTwo (call ∷ (other ∷ calls)) = ⊤
+
+  abbrev first_or : FileCall g → List (FileCall g) → FileCall g
+  first_or other [] = other
+  first_or other (call ∷ calls) = call
+
+  -- the first of two calls is among those that ended whole
+  first_of_two : (one other last : FileCall g) (whole : List (FileCall g)) → one ∷ other ∷ [] ≡ whole ++ last ∷ [] → AllEndedWhole g whole → EndedWhole g one
+  first_of_two one other last [] are all = absurd (subst AreTwo are tt)
+  first_of_two one other last (it ∷ whole) are all = subst (EndedWhole g) (sym (ap (first_or one) are)) all.0
+
+  first_whole : (one other : FileCall g) → AreCallsOf g (record { earlier = opening_for g one ∷ []; had = (tt, tt); last = ended_for g other }) (one ∷ other ∷ []) → EndedWhole g one
+  first_whole one other are = first_of_two one other are.last are.whole are.are are.ended_whole
+
+  -- an opening by which a store was made
+  abbrev Made : {conn after : Held (FileStore D g)} → Did g conn after → Type 0
+  Made (Called came) = ⊥
+  Made (MadeStore register is makes) = ⊤
+
+  abbrev MadeOver : {files : Files D} {left : Option (Files D)} → DoneOver g files left → Type 0
+  MadeOver (Over over) = Made over.does
+  MadeOver (Unconnected fails) = ⊥
+
+  no_call : (register : RegisterValue) (is : IsRegister register) (files : Files D) (over : OverFiles g files (Some files) (Makes g register)) (db : Database) (is_found : IsFoundBehind g (made_over g register is over) db)
+      (last : FileCall g) → record { opening = record { files = files; left = Some files; over = made_over g register is over }; found = db; is_found = is_found } ≡ ended_for g last → ⊥
+  no_call register is files over db is_found last same = subst (λ (ended : Ended g). MadeOver ended.opening.over) same tt
 
 pub returns : goal.returns
 returns g c = record {
@@ -37,8 +77,16 @@ returns g c = record {
   unread = λ text most random before after through ending ends. refl;
   again = λ files left one other first back second. (ap Some (sym first), (back ∙ ap Some (sym second), refl));
   not_again = λ files one other has none links. absurd (let there = links.1.0 in cc);
-  called = λ files over. record { call = Declined over; is_it = refl };
-  making = λ register is files over it. let same = it.is_it in absurd (cc);
-  unconnected = λ files fails it. let same = it.is_it in absurd (cc);
-  ended = λ files one other before fine. fine;
+  refused_had = λ files over. tt;
+  making_had = λ register is files over. tt;
+  none_had = λ files fails it. it;
+  refused_found = λ files over. refl;
+  whole = λ files over fine. Whole fine refl;
+  cut_off = λ files over db itself may. CutOff itself may;
+  nothing_behind = λ files fails db it. it;
+  follow = λ db one other found behind. (found, (behind, tt));
+  not_follow = λ db one other not follow. not follow.1.0;
+  calls = λ one other ended. record { whole = one ∷ []; last = other; are = refl; earlier_are = refl; ended_whole = (ended, tt); last_is = refl };
+  not_cut_off = λ one other not are. not (first_whole g.S.Medium.Disk one other are);
+  making = λ register is files over db is_found calls are. no_call g.S.Medium.Disk register is files over db is_found are.last are.last_is;
 }

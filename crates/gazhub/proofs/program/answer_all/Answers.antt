@@ -3,4 +3,4 @@ use Rattle.gazhub.proofs.program.answer_all.Goals as goal
 
 pub returns-in-Ok-clause-plays : goal.returns-in-Ok-clause-plays
 returns-in-Ok-clause-plays g c =
-    plays _ _ _ _ c.in-Some.register c.in-Some-new_store.conn c.converse_opened-conn.result.conn c.in-Some.ensures c.in-Some-new_store.ensures.new (rw c.in-Ok.is at c.converse_opened-conn.ensures.converses)
+    plays _ _ _ _ c.in_ok-register.register c.in_ok-conn.conn c.converse_opened-conn.result.conn c.in_ok-register.ensures c.in_ok-conn.ensures.new (rw c.in-Ok.is at c.converse_opened-conn.ensures.converses)

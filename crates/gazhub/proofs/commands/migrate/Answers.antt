@@ -1,6 +1,6 @@
 use Rattle.gazhub.specs.Sites.{HasRegister, HasFiles}
 use Rattle.gazhub.proofs.Sites.{without_files, without_register}
-use Rattle.gazhub.proofs.migrating.migrate.Goals as goal
+use Rattle.gazhub.proofs.commands.migrate.Goals as goal
 
 pub returns-in_err-register : goal.returns-in_err-register
 returns-in_err-register g c = without_register g.S.Site.done _ _ _ _ c.from_residual.result _ c.in_err-register.ensures c.from_residual.ensures.1
