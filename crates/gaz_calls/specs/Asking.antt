@@ -79,8 +79,8 @@ pub record Fails {S : Type 0} {store : Ghosts S} (old new : Tables S store) (fau
   pub kept : old.failures ≤ new.failures
   pub counted : fault ≡ Store → old.failures < new.failures
 
--- what a failure is told as behind so many that were counted: one more, unless the count is at its
--- last value
+-- what a failure is told as behind so many that were counted: one of the store, or where no more
+-- can be counted want of memory
 abbrev pub failure_behind : ℕ → ShelfFault
 failure_behind failures = if failures == 2 ^ 64 - 1 then Memory else Store
 

@@ -87,7 +87,8 @@ pub record WorkedAsking : Type 0 where
   pub counted : failure_behind 2 ≡ Store
   pub past_counting : failure_behind (2 ^ 64 - 1) ≡ Memory
   -- a failure may be told where one came, and of a store's tables not else
-  pub may_fail : (db : Database) → IsServed {T = ℕ} (failed_over db 2) (failed_over db 3) (Err Store)
+  pub may_fail : (db : Database)
+      → IsServed {T = ℕ} (failed_over db 2) (failed_over db 3) (Err Store)
   pub may_not : (db : Database) → IsKept db
       → ¬ IsServed {T = ℕ} (failed_over db 2) (failed_over db 2) (Err Store)
   pub at_hand : WorkedHand

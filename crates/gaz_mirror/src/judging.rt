@@ -1,4 +1,5 @@
-//! A judgement over two keepers, and how what was gathered of one is handed down.
+//! A judgement over two keepers, how what was gathered of one is handed down, and which of the two
+//! is asked.
 ghost use Rattle.std.specs.Prelude.{◌≡◌, ◌≢◌, ⊤, None, OnOk};
 ghost use Rattle.gaz_keeper.specs.Keeper.{Counts, Goes, Idle, Keeps, Reads, Refuses, view_of};
 ghost use Rattle.gaz_keeper.specs.Telling.{Abandons, Applies};

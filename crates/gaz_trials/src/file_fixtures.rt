@@ -56,8 +56,8 @@ pub(crate) const RESTS_ALONE: &[u8] = b"10,1,1002,1,2024-06-01\n90,1003,1\n99,0\
 /// A basis and no changes, of the custodian on whom that one rests.
 pub(crate) const RESTS_ON_1002: &[u8] = b"10,1,1003,1,2024-06-01\n90,1002,1\n99,0\n";
 
-/// Properties with the least and the greatest numbers, with zeros, quotes, an empty line and line
-/// ends that needn't be there.
+/// Properties with the least and the greatest coordinates, with zeros, quotes, an empty line and
+/// line ends that needn't be there.
 pub(crate) const WRITTEN_LOOSELY: &[u8] = b"10,0001,1001,000001,2024-01-02\r\n\r\n\
     21,I,0001,000000000042,1,0,0,,,2020-01-01,\r\n\
     \"21\",I,2,999999999999,1,700000,1300000,,,2020-01-01,\r\n99,0002";

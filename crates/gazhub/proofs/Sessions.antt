@@ -1,6 +1,5 @@
 -- Commands that are given one after another, at a site that keeps a store's files, are one run.
 use Rattle.std.proofs.Common.{◌≡◌, ◌∙◌, ◌++◌, ◌-◌, ℕ, Bool, true, false, List, [], ◌∷◌, map, Option, Some, None, Result, ap, refl, subst, sym}
-use Rattle.std.specs.Prelude.{⊤}
 use Rattle.sqlite.specs.Effect.{Database}
 use Rattle.sqlite.specs.Files.{file_state, over_files}
 use Rattle.sqlite.specs.Held.{Held}
@@ -9,27 +8,22 @@ use Rattle.sqlite_disk.specs.declared.Disk as disk
 use Rattle.sqlite_disk.specs.declared.Files.{Files}
 use Rattle.sqlite_store.specs.declared.store.FileStore.{FileStore}
 use Rattle.gaz_register.specs.Registers.{IsRegister, RegisterValue}
-use Rattle.gaz_tables.specs.Stores.{HasTables}
 use Rattle.gaz_calls.specs.Seen.{IsUnharmed}
 use Rattle.gaz_exchange.specs.Conversing.{Transfer}
 use Rattle.gaz_stored.specs.Calls as stored
 use Rattle.gaz_stored.specs.Calls.{IsFoundAfter}
-use Rattle.gaz_stored.specs.Migrating.{StandsMoved}
-use Rattle.gaz_stored.specs.Meetings.{Meeting}
-use Rattle.gaz_stored.specs.Runs.{GoesOn, IsStoreOf}
+use Rattle.gaz_stored.specs.Runs.{IsStoreOf}
 use Rattle.gaz_stored.proofs.Calling as calling
 use Rattle.gaz_words.specs.declared.command.Command.{Command}
 use Rattle.gaz_words.specs.declared.command.Command.TheVariants.{Play, Init, Ask, Serve, Extend, Migrate}
 use Rattle.gaz_words.specs.declared.command.Places.{Places}
 use Rattle.gazhub.specs.Commands.{Ends, EndsAt, EndsByMeaning, Explained, Followed}
 use Rattle.gaz_filing.specs.Filing.{Closes, Connects, Makes}
-use Rattle.gaz_filing.specs.Joined as joined
 use Rattle.gaz_filing.specs.Joined.{EndedWhole, FileCall, call_over}
-use Rattle.gaz_steps.specs.Step.{new_hub}
 use Rattle.gazhub.specs.Openings.{Called, Did, DoneOver, MadeStore, Opening, Over, Unconnected, opened_by_command, opened_by_meaning, opened_by_serving, opened_by_serving_once, opened_by_serving_rest, opened_by_words, with_files, with_register}
 use Rattle.gazhub.specs.Serving.{Begins, More, NeverBegins, NeverTold, NoMore, ServeComesTo, ServesOnce, ServesRest, Untold, Whole}
-use Rattle.gazhub.specs.Sessions.{AreCallsOf, AreCallsOfAll, AreGivenInTurn, AreLinked, AreOneRun, Ended, FirstFound, FollowOn, Given, HadConnections, HasFound, IsBefore, IsConnected, IsFoundBehind, KeepsFiles, Session, SessionsAreOne, Stretch, ended_for, first_of, opening_for, openings_in, openings_of}
-use Rattle.gazhub.specs.Sites.{Closed, Deed, Does, HasFiles, HasRegister, Met, NoFiles, NoRegister, WithFiles, WithRegister}
+use Rattle.gazhub.specs.Sessions.{AreCallsOf, AreCallsOfAll, AreGivenInTurn, AreLinked, Ended, FirstFound, FollowOn, Given, HadConnections, HasFound, IsBefore, IsConnected, IsFoundBehind, KeepsFiles, Session, SessionsAreOne, Stretch, ended_for, first_of, opening_for, openings_in, openings_of}
+use Rattle.gazhub.specs.Sites.{Deed, HasFiles, HasRegister, NoFiles, NoRegister, WithFiles, WithRegister}
 use Rattle.gazhub.specs.declared.ending.Ending.{Ending}
 use Rattle.gazhub.specs.declared.files.NoHub.{NoHub}
 use Rattle.gazhub.specs.declared.site.Purpose.{Purpose}
@@ -365,14 +359,9 @@ module _ {D : Type 0} (g : disk.Ghosts D) where
   sessions_are_one done text most files keeps =
       record {
         linked = λ before after given follow. linked done files keeps text most before after given follow;
-        made = λ register session opening db before makes found.
-            let over = makes.over in
-            let it = behind done text most files keeps session opening over.after db before over.closes found in
-            subst (GoesOn register new_hub [] []) it.1 ((joining.calls_are_one g).made register over.conn over.after over.does makes.room it.0.clean);
-        moved = λ register session opening db before moves found.
-            let over = moves.over in
-            let it = behind done text most files keeps session opening over.after db before over.closes found in
-            subst (StandsMoved register (file_state over.conn).now) it.1 (over.does.0.moves it.0 moves.stood);
+        made = λ register opening makes fine. (joining.calls_are_one g).made register makes.over.conn makes.over.after makes.over.does makes.room fine.clean;
+        moved = λ register opening moves fine. moves.over.does.0.moves fine moves.stood;
+        found = λ session opening over db before is found. behind done text most files keeps session opening over.after db before over.closes found;
         opened = λ register db sessions is store follow.
             let all = all_run (λ session. session.stretch) (stretch_linked done text most files keeps) register db sessions is store follow in
             record { calls = all.calls; are = all.are; one = calling.calls_are_one (over_files {D = D} {g = g}) register db (map (call_over g) all.calls) is store all.follow };

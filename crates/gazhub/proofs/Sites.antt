@@ -1,5 +1,5 @@
 -- What comes of looking for a register and for a store's files, and of peers.
-use Rattle.std.proofs.Common.{◌≡◌, ◌∙◌, ◌++◌, List, [], ◌∷◌, None, Ok, Err, Result, IfErr, IfOk, IsErrAnd, Option, OnErr, ℕ, ap, inl, inr, map, refl, subst, sym}
+use Rattle.std.proofs.Common.{◌≡◌, ◌∙◌, List, [], ◌∷◌, None, Ok, Err, Result, IfErr, IfOk, IsErrAnd, OnErr, ℕ, ap, inl, inr, map, refl, sym}
 use Rattle.std.proofs.lemmas.Result.{err_from_is_err_and}
 use Rattle.sqlite_disk.specs.declared.Files.{Files}
 use Rattle.gaz_kept.specs.declared.refusal.StoreRefusal.TheVariants.{Fault}
@@ -8,7 +8,7 @@ use Rattle.gaz_register.specs.Reading.{register_of}
 use Rattle.gaz_register.specs.Registers.{IsRegister, RegisterValue}
 use Rattle.gaz_register.proofs.Keyed.{reads-registers}
 use Rattle.gaz_stored.specs.Meetings.{AreMet, Meeting, WithPeers}
-use Rattle.gazhub.specs.Sites.{Closed, Deed, Does, FindsRegister, Met, NoRegister, Opened, NoFiles, WithFiles, WithRegister}
+use Rattle.gazhub.specs.Sites.{Deed, Does, FindsRegister, Met, NoRegister, Opened, NoFiles, WithFiles, WithRegister}
 use Rattle.gazhub.specs.declared.files.NoHub.{NoHub}
 use Rattle.gazhub.specs.declared.files.NoHub.TheVariants as none
 use Rattle.gazhub.specs.declared.site.Purpose.{Purpose}

@@ -89,13 +89,9 @@ IsExplained _ ending = ending ≡ Usage
 -- held at a hub of the register that the text describes, with at most so many requests.
 module _ {S D : Type 0} (done : S → Deed D → S → Type 0) (g : disk.Ghosts D) (text : List ℕ)
     (most : ℕ) (before after : S) (through : Transfer) where
-  -- a conversation is held, for which nothing is done at a site
-  abbrev pub EndsPlaying : Ending → Type 0
-  EndsPlaying ending = Holds text most through ending × (after ≡ before)
-
-  -- how the program ends, by the command
+  -- how the program ends, by the command; for a conversation nothing is done at a site
   abbrev pub EndsAt : Command → Ending → Type 0
-  EndsAt Play ending = EndsPlaying ending
+  EndsAt Play ending = Holds text most through ending × (after ≡ before)
   EndsAt (Init places) ending = Finishes (InitComesTo done g places before after) through ending
   EndsAt (Ask places call) ending =
       Finishes (AskComesTo done g places call before after) through ending

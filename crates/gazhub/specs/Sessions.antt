@@ -7,6 +7,7 @@ use Rattle.sqlite_disk.specs.declared.Disk as disk
 use Rattle.sqlite_disk.specs.declared.Files.{Files}
 use Rattle.gaz_register.specs.Registers.{IsRegister, RegisterValue}
 use Rattle.gaz_tables.specs.Creating.{HasRoom}
+use Rattle.gaz_calls.specs.Seen.{IsUnharmed}
 use Rattle.gaz_steps.specs.Step.{new_hub}
 use Rattle.gaz_exchange.specs.Conversing.{Transfer}
 use Rattle.gaz_stored.specs.Calls.{IsFoundAfter, Moved}
@@ -16,8 +17,8 @@ use Rattle.gaz_stored.specs.declared.migrating.Migration.{Migration}
 use Rattle.gaz_filing.specs.Filing.{Makes, MigratesStore, OverFiles}
 use Rattle.gaz_filing.specs.Joined.{AreOne, EndedWhole, FileCall}
 use Rattle.gazhub.specs.Commands.{Commands}
-use Rattle.gazhub.specs.Openings.{DoneOver, Opening, Over, Unconnected, called_over, made_over}
-use Rattle.gazhub.specs.Openings.{opened_by_words}
+use Rattle.gazhub.specs.Openings.{Did, DoneOver, Opening, Over, Unconnected, called_over}
+use Rattle.gazhub.specs.Openings.{made_over, opened_by_words}
 use Rattle.gazhub.specs.Sites.{Closed, Deed, Opened}
 
 -- what a deed makes of a store's files: those that are opened were there, those that are closed are
@@ -185,8 +186,8 @@ module _ {D : Type 0} (g : disk.Ghosts D) where
         given.random given.came.ending given.came.ends ++ openings_in later
 
     -- commands given in turn, up to a stop or the end, and of the openings that they made the
-    -- stretch that is looked at: the last of them, behind one by which the store was made or
-    -- migrated
+    -- stretch that is looked at: the last of them, behind any that are past, as one by which the
+    -- store was made or migrated
     pub record Session : Type 0 where
       pub before : S
       pub after : S
@@ -209,15 +210,21 @@ module _ {D : Type 0} (g : disk.Ghosts D) where
       -- each opening finds what the one before gave back
       pub linked : (before after : S) (given : List Given) → AreGivenInTurn before given after
           → AreLinked (files before) (openings_in given) (files after)
-      -- behind one that makes a store is found that of a hub that was asked nothing
-      pub made : (register : RegisterValue) (session : Session) (opening : Opening g)
-          (db : Database) → IsBefore opening session → MakesFirst register opening
-          → FirstFound session.stretch db → GoesOn register new_hub [] [] db
-      -- and behind one that migrates one, that of the hub that its tables stood for
-      pub moved : (register : RegisterValue) (session : Session) (opening : Opening g)
-          (db : Database) → IsBefore opening session → (moves : MovesFirst register opening)
-          → FirstFound session.stretch db
-          → StandsMoved register (file_state moves.over.conn).now db
+      -- one that makes a store leaves that of a hub that was asked nothing, where no failure shut
+      -- its connection
+      pub made : (register : RegisterValue) (opening : Opening g)
+          → (makes : MakesFirst register opening) → IsUnharmed (file_state makes.over.after)
+          → GoesOn register new_hub [] [] (file_state makes.over.after).now
+      -- and one that migrates one that of the hub that its tables stood for
+      pub moved : (register : RegisterValue) (opening : Opening g)
+          → (moves : MovesFirst register opening) → IsUnharmed (file_state moves.over.after)
+          → StandsMoved register (file_state moves.over.conn).now
+          (file_state moves.over.after).now
+      -- a stretch finds what the opening before it left, whose connection no failure had shut
+      pub found : (session : Session) (opening : Opening g)
+          (over : OverFiles g opening.files opening.left (Did g)) (db : Database)
+          → IsBefore opening session → opening.over ≡ Over over → FirstFound session.stretch db
+          → IsUnharmed (file_state over.after) × ((file_state over.after).now ≡ db)
       -- over a store that the first of them finds they are one run of one hub, however many
       -- sessions there are, each of which finds what is found after the one before, and however
       -- many of them end in a stop: each opening is a call, and none makes a store again
@@ -225,6 +232,6 @@ module _ {D : Type 0} (g : disk.Ghosts D) where
           → IsRegister register → IsStoreOf register db → FollowOn db (stretches_of sessions)
           → AreOneRun register db (stretches_of sessions)
 
-    -- whatever is kept of them
+    -- so it is of each store's files that a site keeps
     abbrev pub SessionsAreOne : Type 0
     SessionsAreOne = (files : S → Option (Files D)) → KeepsFiles done files → AreOneOver files

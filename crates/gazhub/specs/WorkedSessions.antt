@@ -21,9 +21,9 @@ use Rattle.gazhub.specs.Desks.{IsDone}
 use Rattle.gazhub.specs.Openings.{DoneOver, Opening, Unconnected, called_over, made_over}
 use Rattle.gazhub.specs.Openings.{opened_by_words}
 use Rattle.gazhub.specs.Openings as openings
-use Rattle.gazhub.specs.Sessions.{AreCallsOf, AreLinked, Ended, FollowOn, HasFound, IsConnected}
-use Rattle.gazhub.specs.Sessions.{IsFoundBehind, IsLeftBy, KeepsFiles, Stretch, ended_for}
-use Rattle.gazhub.specs.Sessions.{opening_for}
+use Rattle.gazhub.specs.Sessions.{AreCallsOf, AreCallsOfAll, AreLinked, AreOneRun, Ended}
+use Rattle.gazhub.specs.Sessions.{FollowOn, HasFound, IsBefore, IsConnected, IsFoundBehind}
+use Rattle.gazhub.specs.Sessions.{IsLeftBy, KeepsFiles, Session, Stretch, ended_for, opening_for}
 use Rattle.gazhub.specs.Sites.{Closed, Deed, HasFiles, Listened, Met, NoFiles, Opened, Read}
 use Rattle.gazhub.specs.Sites.{WithFiles}
 use Rattle.gazhub.specs.declared.ending.Ending.{Ending}
@@ -150,9 +150,25 @@ module _ {S D : Type 0} (done : S → Deed D → S → Type 0) (g : disk.Ghosts 
     pub not_cut_off : (one other : FileCall g) → ¬ EndedWhole g one
         → ¬ AreCallsOf g (behind_one (opening_for g one) tt (ended_for g other))
         (one ∷ other ∷ [])
+    -- and so are two stretches of one each, whether a stop cut off the first or not
+    pub stretches : (one other : FileCall g)
+        → AreCallsOfAll g (alone (ended_for g one) ∷ alone (ended_for g other) ∷ [])
+        (one ∷ other ∷ [])
     -- a store that was made is no call
     pub making : (register : RegisterValue) (is : IsRegister register) (files : Files D)
         (over : OverFiles g files (Some files) (Makes g register))
         (db : Database) (is_found : IsFoundBehind g (made_over g register is over) db)
         (calls : List (FileCall g))
         → ¬ AreCallsOf g (alone (ended_at files (made_over g register is over) db is_found)) calls
+    -- and of no run
+    pub no_run : (register new : RegisterValue) (is : IsRegister new) (files : Files D)
+        (over : OverFiles g files (Some files) (Makes g new)) (db found : Database)
+        (is_found : IsFoundBehind g (made_over g new is over) found)
+        → ¬ AreOneRun g register db
+        (alone (ended_at files (made_over g new is over) found is_found) ∷ [])
+    -- the last of those that are past stands before a stretch, and nothing where none are
+    pub before : (text : List ℕ) (most : ℕ) (session : Session g done text most)
+        (first last : Opening g) → session.past ≡ first ∷ last ∷ []
+        → IsBefore g done text most last session
+    pub not_before : (text : List ℕ) (most : ℕ) (session : Session g done text most)
+        (opening : Opening g) → session.past ≡ [] → ¬ IsBefore g done text most opening session

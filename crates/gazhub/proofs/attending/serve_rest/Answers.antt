@@ -1,4 +1,4 @@
-use Rattle.std.proofs.Common.{◌≡◌, arith, refl}
+use Rattle.std.proofs.Common.{◌≡◌, arith}
 use Rattle.gazhub.specs.Serving.{More, NoMore, Untold, Whole}
 use Rattle.gazhub.proofs.attending.serve_rest.Goals as goal
 

@@ -11,7 +11,7 @@ use Rattle.gaz_stored.specs.Meetings.{Came, Left, Missed}
 use Rattle.gaz_filing.specs.Filing.{Makes, OverFiles}
 use Rattle.gaz_filing.specs.Joined.{EndedWhole, FileCall}
 use Rattle.gazhub.specs.Desks.{IsDone}
-use Rattle.gazhub.specs.Openings.{Called, Did, DoneOver, MadeStore, Over, Unconnected, made_over}
+use Rattle.gazhub.specs.Openings.{Called, Did, DoneOver, MadeStore, Opening, Over, Unconnected, made_over}
 use Rattle.gazhub.specs.Sessions.{AllEndedWhole, AreCallsOf, Ended, IsFoundBehind, IsLeftBy, ended_for, opening_for}
 use Rattle.gazhub.specs.Sites.{Closed, Deed, Listened, Met, Opened, Read}
 use Rattle.gazhub.proofs.laws.worked_sessions.Goals as goal
@@ -58,6 +58,13 @@ module _ {D : Type 0} (g : disk.Ghosts D) where
       (last : FileCall g) → record { opening = record { files = files; left = Some files; over = made_over g register is over }; found = db; is_found = is_found } ≡ ended_for g last → ⊥
   no_call register is files over db is_found last same = subst (λ (ended : Ended g). MadeOver ended.opening.over) same tt
 
+  alone_is : (call : FileCall g) → AreCallsOf g (record { earlier = []; had = tt; last = ended_for g call }) (call ∷ [])
+  alone_is call = record { whole = []; last = call; are = refl; earlier_are = refl; ended_whole = tt; last_is = refl }
+
+  none_before : (opening : Opening g) (past : List (Opening g)) → [] ≡ past ++ opening ∷ [] → ⊥
+  none_before opening [] is = cc
+  none_before opening (first ∷ past) is = cc
+
 pub returns : goal.returns
 returns g c = record {
   found = λ path purpose files. (refl, refl, (refl, refl), λ path. refl);
@@ -88,5 +95,9 @@ returns g c = record {
   not_follow = λ db one other not follow. not follow.1.0;
   calls = λ one other ended. record { whole = one ∷ []; last = other; are = refl; earlier_are = refl; ended_whole = (ended, tt); last_is = refl };
   not_cut_off = λ one other not are. not (first_whole g.S.Medium.Disk one other are);
+  stretches = λ one other. (one ∷ [], other ∷ [], alone_is g.S.Medium.Disk one, (other ∷ [], [], alone_is g.S.Medium.Disk other, refl, refl), refl);
   making = λ register is files over db is_found calls are. no_call g.S.Medium.Disk register is files over db is_found are.last are.last_is;
+  no_run = λ register new is files over db found is_found run. no_call g.S.Medium.Disk new is files over found is_found run.are.2.last run.are.2.last_is;
+  before = λ text most session first last is. (first ∷ [], is);
+  not_before = λ text most session opening none it. none_before g.S.Medium.Disk opening it.0 (sym none ∙ it.1);
 }
